@@ -1,0 +1,185 @@
+-- Counts do not change under an invertible change of the words counted over. A step of a secret x and of the pair (r, g) is `Free`
+-- where its count is, at every secret, that of a step in which the secret does not stand; the movers carry this from step to step.
+use mathlib.Core.Path.{_≡_, refl, sym, ap, ap₂, _∙_}
+use mathlib.Core.List.{List, [], _∷_}
+use Prim.Native.Nat.{ℕ, zero, suc, _+_, _-_, _*_, _/_, _%_, _^_, _≤_, _<_, min}
+use native.Mathlib.Nat.{mod-eq-of-lt, pow-suc, not-suc-le-zero, add-comm, add-zero, lt-of-le-of-lt}
+use native.Mathlib.Numerals.{add-one}
+use native.Mathlib.Decide.{ℕ-discrete}
+use native.Mathlib.Omega.{arith}
+use lib.Arith.{lt-one}
+use lib.Bits.{bitXor, bitAnd, differ, xor-lt, and-mod, and-le-r, xor-zero-r, and-zero-r}
+use lib.ListN.{getD}
+use lib.Pow.{pow-pos}
+use borrow.Author.Tests.{eq-eqb, ne-eqb}
+use Rattle.words.specs.Word.{minus, shift, double}
+use Rattle.words.specs.Count.{sum, hit, one, pairs}
+use Rattle.words.proofs.Bits.{differ-lt, xor-digit, and-digit, digits}
+use Rattle.words.proofs.Words.{minus-lt, minus-minus, xor-back}
+
+-- ---- sums
+sum-ext : (n : ℕ) (f g : ℕ → ℕ) → ((x : ℕ) → x < n → f x ≡ g x) → sum n f ≡ sum n g
+unfolding sum
+sum-ext zero f g h = refl
+sum-ext (suc n) f g h = ap₂ (λ (x y : ℕ). x + y) (sum-ext n f g (λ x l. h x (omega arith))) (h n (omega arith))
+
+pub sum-zero : (n : ℕ) → sum n (λ x. 0) ≡ 0
+unfolding sum
+sum-zero zero = refl
+sum-zero (suc n) = omega (arith, sum-zero n)
+
+sum-add : (n : ℕ) (f g : ℕ → ℕ) → sum n (λ x. f x + g x) ≡ sum n f + sum n g
+unfolding sum
+sum-add zero f g = refl
+sum-add (suc n) f g = omega (arith, sum-add n f g)
+
+sum-swap : (n m : ℕ) (f : ℕ → ℕ → ℕ) → sum n (λ x. sum m (f x)) ≡ sum m (λ y. sum n (λ x. f x y))
+unfolding sum
+sum-swap zero m f = sym (sum-zero m)
+sum-swap (suc n) m f = ap (λ s. s + sum m (f n)) (sum-swap n m f) ∙ sym (sum-add m (λ y. sum n (λ x. f x y)) (f n))
+
+pub hit-eq : (a b : ℕ) → a ≡ b → hit a b ≡ 1
+unfolding hit
+hit-eq a b e = ap one (eq-eqb a b e)
+
+pub hit-ne : (a b : ℕ) → (a ≡ b → ⊥) → hit a b ≡ 0
+unfolding hit
+hit-ne a b e = ap one (ne-eqb a b e)
+
+sum-miss : (n c : ℕ) (f : ℕ → ℕ) → n ≤ c → sum n (λ y. hit y c * f y) ≡ 0
+unfolding sum
+sum-miss zero c f h = refl
+sum-miss (suc n) c f h = rw (sum-miss n c f (omega arith), hit-ne n c (omega arith)) (omega arith)
+
+sum-pick : (n c : ℕ) (f : ℕ → ℕ) → c < n → sum n (λ y. hit y c * f y) ≡ f c
+unfolding sum
+sum-pick zero c f h = absurd (not-suc-le-zero h)
+sum-pick (suc n) c f h = go (sum-pick n c f) (ℕ-discrete n c)
+  where
+    go : (c < n → sum n (λ y. hit y c * f y) ≡ f c) → Dec (n ≡ c) → sum n (λ y. hit y c * f y) + hit n c * f n ≡ f c
+    go ih (yes e) = rw (sum-miss n c f (omega arith), hit-eq n c e, e) (omega arith)
+    go ih (no e) = rw (ih (omega arith), hit-ne n c e) (omega arith)
+
+-- a sum over the same numbers in another order: σ undoes itself
+module _ (n : ℕ) (σ : ℕ → ℕ) (low : (x : ℕ) → x < n → σ x < n) (undone : (x : ℕ) → x < n → σ (σ x) ≡ x) where
+  hit-flip : (x y : ℕ) → x < n → y < n → hit y (σ x) ≡ hit x (σ y)
+  hit-flip x y hx hy = go (ℕ-discrete y (σ x))
+    where
+      go : Dec (y ≡ σ x) → hit y (σ x) ≡ hit x (σ y)
+      go (yes e) = hit-eq y (σ x) e ∙ sym (hit-eq x (σ y) (sym (undone x hx) ∙ ap σ (sym e)))
+      go (no e) = hit-ne y (σ x) e ∙ sym (hit-ne x (σ y) (λ q. e (sym (undone y hy) ∙ ap σ (sym q))))
+
+  sum-invol : (f : ℕ → ℕ) → sum n (λ x. f (σ x)) ≡ sum n f
+  sum-invol f =
+      sum-ext n (λ x. f (σ x)) (λ x. sum n (λ y. hit y (σ x) * f y)) (λ x h. sym (sum-pick n (σ x) f (low x h)))
+      ∙ sum-swap n n (λ x y. hit y (σ x) * f y)
+      ∙ sum-ext n (λ y. sum n (λ x. hit y (σ x) * f y)) f (λ y hy.
+      sum-ext n (λ x. hit y (σ x) * f y) (λ x. hit x (σ y) * f y) (λ x hx. ap (λ z. z * f y) (hit-flip x y hx hy))
+      ∙ sum-pick n (σ y) (λ x. f y) (low y hy))
+
+-- ---- the change g ↦ g ⊕ (2g ∧ m) ⊕ c, digit by digit: b is the digit that comes in from below
+abbrev turned : ℕ → ℕ → ℕ → ℕ → ℕ
+turned b m c g = bitXor (bitXor g (bitAnd (g * 2 + b) m)) c
+
+turned-digit : (b m c h d : ℕ) → b < 2 → d < 2 → turned b m c (h * 2 + d) ≡ turned d (m / 2) (c / 2) h * 2 + differ (differ d (min b (m % 2))) (c % 2)
+turned-digit b m c h d hb hd =
+    let g = h * 2 + d in
+    let p = and-digit (g * 2 + b) m g (m / 2) b (m % 2) refl hb (omega arith) (omega arith) in
+    let q = xor-digit g (bitAnd (g * 2 + b) m) h (bitAnd g (m / 2)) d (min b (m % 2)) refl hd p (omega arith) in
+    xor-digit (bitXor g (bitAnd (g * 2 + b) m)) c _ (c / 2) (differ d (min b (m % 2))) (c % 2) q (differ-lt d (min b (m % 2)) hd (omega arith)) (omega arith) (omega arith)
+
+sum-two : (n : ℕ) (f : ℕ → ℕ) → sum (n * 2) f ≡ sum n (λ h. f (h * 2 + 0) + f (h * 2 + 1))
+unfolding sum
+sum-two zero f = refl
+sum-two (suc n) f = let twice : suc n * 2 ≡ suc (suc (n * 2)) = omega arith in rw (twice, add-zero (n * 2), add-one (n * 2)) (omega (arith, sum-two n f))
+
+flip : (f : ℕ → ℕ) (n q : ℕ) → q < 2 → f (n + q) + f (n + differ 1 q) ≡ f (n + 0) + f (n + 1)
+flip f n zero h = refl
+flip f n (suc zero) h = add-comm (f (n + 1)) (f (n + 0))
+flip f n (suc (suc q)) h = omega arith
+
+flipped : (b c d : ℕ) → b < 2 → c < 2 → d < 2 → differ (differ 1 b) c ≡ differ 1 (differ b c)
+flipped = digits (λ b c d. differ (differ 1 b) c) (λ b c d. differ 1 (differ b c)) tt
+
+sum-turned : (k b m c : ℕ) (f : ℕ → ℕ) → b < 2 → m < 2 ^ k → c < 2 ^ k → sum (2 ^ k) (λ g. f (turned b m c g)) ≡ sum (2 ^ k) f
+unfolding sum
+sum-turned zero b m c f hb hm hc = rw (lt-one hm, lt-one hc, and-zero-r (0 * 2 + b))
+sum-turned (suc k) b m c f hb hm hc =
+    let z = min b (m % 2) in
+    let q = differ z (c % 2) in
+    let half : (d e : ℕ) → d < 2 → sum (2 ^ k) (λ h. f (turned d (m / 2) (c / 2) h * 2 + e)) ≡ sum (2 ^ k) (λ h. f (h * 2 + e)) =
+    λ d e hd. sum-turned k d (m / 2) (c / 2) (λ n. f (n * 2 + e)) hd (omega arith) (omega arith) in
+    rw (pow-suc 2 k)
+    (sum-two (2 ^ k) (λ g. f (turned b m c g))
+    ∙ sum-ext (2 ^ k) _ (λ h. f (turned 0 (m / 2) (c / 2) h * 2 + q) + f (turned 1 (m / 2) (c / 2) h * 2 + differ 1 q)) (λ h l.
+    ap₂ (λ (x y : ℕ). f x + f y) (turned-digit b m c h 0 hb (omega arith))
+    (turned-digit b m c h 1 hb (omega arith) ∙ ap (λ n. turned 1 (m / 2) (c / 2) h * 2 + n) (flipped z (c % 2) 0 (omega arith) (omega arith) (omega arith))))
+    ∙ sum-add (2 ^ k) (λ h. f (turned 0 (m / 2) (c / 2) h * 2 + q)) (λ h. f (turned 1 (m / 2) (c / 2) h * 2 + differ 1 q))
+    ∙ ap₂ (λ (x y : ℕ). x + y) (half 0 q (omega arith)) (half 1 (differ 1 q) (omega arith))
+    ∙ sym (sum-add (2 ^ k) (λ h. f (h * 2 + q)) (λ h. f (h * 2 + differ 1 q)))
+    ∙ sum-ext (2 ^ k) _ (λ h. f (h * 2 + 0) + f (h * 2 + 1)) (λ h l. flip f (h * 2) q (differ-lt z (c % 2) (omega arith) (omega arith)))
+    ∙ sym (sum-two (2 ^ k) f))
+
+-- below 2^k the mask m cuts the double to k bits
+and-double : (k g m : ℕ) → m < 2 ^ k → bitAnd (g * 2 + 0) m ≡ bitAnd (double k g) m
+unfolding shift
+and-double k g m h = rw (add-zero (g * 2)) (sym (mod-eq-of-lt (lt-of-le-of-lt (and-le-r (g * 2) m) h)) ∙ and-mod (g * 2) m k ∙ ap (bitAnd (g * 2 % 2 ^ k)) (mod-eq-of-lt h))
+
+-- ---- steps of a secret x and of the pair (r, g)
+abbrev pub Free : ℕ → (ℕ → ℕ → ℕ → ℕ) → Type 0
+Free k f = (h : ℕ → ℕ → ℕ) × ((x n : ℕ) → x < 2 ^ k → pairs k (f x) n ≡ pairs k h n)
+
+module _ (k : ℕ) where
+  -- the secret does not stand in it
+  pub plain : (h : ℕ → ℕ → ℕ) → Free k (λ x r g. h r g)
+  plain h = (h, λ x n hx. refl)
+
+  -- it has the values of another
+  pub like : (f h : ℕ → ℕ → ℕ → ℕ) → ((x r g : ℕ) → x < 2 ^ k → r < 2 ^ k → g < 2 ^ k → f x r g ≡ h x r g) → Free k h → Free k f
+  unfolding pairs
+  like f h e a = (a .0, λ x n hx. sum-ext (2 ^ k) _ _ (λ r hr. sum-ext (2 ^ k) _ _ (λ g hg. ap (λ m. hit m n) (e x r g hx hr hg))) ∙ a .1 x n hx)
+
+  -- r becomes x ⊕ r
+  pub by-xor : (f : ℕ → ℕ → ℕ → ℕ) → Free k f → Free k (λ x r g. f x (bitXor x r) g)
+  unfolding pairs
+  by-xor f a =
+      (a .0, λ x n hx.
+      sum-invol (2 ^ k) (bitXor x) (λ r hr. xor-lt k x r hx hr) (λ r hr. xor-back x r) (λ r. sum (2 ^ k) (λ g. hit (f x r g) n)) ∙ a .1 x n hx)
+
+  -- r becomes x − r
+  pub by-minus : (f : ℕ → ℕ → ℕ → ℕ) → Free k f → Free k (λ x r g. f x (minus k x r) g)
+  unfolding pairs
+  by-minus f a =
+      (a .0, λ x n hx.
+      sum-invol (2 ^ k) (minus k x) (λ r hr. minus-lt k x r) (λ r hr. minus-minus k x r hx hr) (λ r. sum (2 ^ k) (λ g. hit (f x r g) n)) ∙ a .1 x n hx)
+
+  -- g becomes g ⊕ (2g ∧ m) ⊕ c, with m and c of x and r
+  pub by-turn : (m c : ℕ → ℕ → ℕ) (f : ℕ → ℕ → ℕ → ℕ) → ((x r : ℕ) → x < 2 ^ k → r < 2 ^ k → (m x r < 2 ^ k) × (c x r < 2 ^ k))
+      → Free k f → Free k (λ x r g. f x r (bitXor (bitXor g (bitAnd (double k g) (m x r))) (c x r)))
+  unfolding pairs
+  by-turn m c f low a =
+      (a .0, λ x n hx.
+      sum-ext (2 ^ k) _ _ (λ r hr.
+      sum-ext (2 ^ k) _ (λ g. hit (f x r (turned 0 (m x r) (c x r) g)) n) (λ g hg.
+      ap (λ t. hit (f x r (bitXor (bitXor g t) (c x r))) n) (sym (and-double k g (m x r) (low x r hx hr .0))))
+      ∙ sum-turned k 0 (m x r) (c x r) (λ g. hit (f x r g) n) (omega arith) (low x r hx hr .0) (low x r hx hr .1))
+      ∙ a .1 x n hx)
+
+  -- g becomes g ⊕ c, with c of x and r
+  pub by-fresh : (c : ℕ → ℕ → ℕ) (f : ℕ → ℕ → ℕ → ℕ) → ((x r : ℕ) → x < 2 ^ k → r < 2 ^ k → c x r < 2 ^ k) → Free k f → Free k (λ x r g. f x r (bitXor g (c x r)))
+  by-fresh c f low a =
+      like (λ x r g. f x r (bitXor g (c x r))) (λ x r g. f x r (bitXor (bitXor g (bitAnd (double k g) 0)) (c x r)))
+      (λ x r g hx hr hg. ap (λ t. f x r (bitXor t (c x r))) (sym (ap (bitXor g) (and-zero-r (double k g)) ∙ xor-zero-r g)))
+      (by-turn (λ x r. 0) c f (λ x r hx hr. (pow-pos k, low x r hx hr)) a)
+
+-- ---- a record of steps, each entry taken alone
+abbrev pub Entries : ℕ → (ℕ → ℕ → ℕ → List ℕ) → Type 0
+Entries k f = (i : ℕ) → Free k (λ x r g. getD (f x r g) i 0)
+
+module _ (k : ℕ) where
+  pub no-entry : Entries k (λ x r g. [])
+  no-entry i = plain k (λ r g. 0)
+
+  pub entry : (a : ℕ → ℕ → ℕ → ℕ) (f : ℕ → ℕ → ℕ → List ℕ) → Free k a → Entries k f → Entries k (λ x r g. a x r g ∷ f x r g)
+  entry a f p q zero = p
+  entry a f p q (suc i) = q i

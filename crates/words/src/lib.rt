@@ -1,0 +1,1 @@
+// Words of k bits: definitions and laws, and no code.
