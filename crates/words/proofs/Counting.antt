@@ -23,7 +23,7 @@ unfolding sum
 sum-ext zero f g h = refl
 sum-ext (suc n) f g h = ap₂ (λ (x y : ℕ). x + y) (sum-ext n f g (λ x l. h x (omega arith))) (h n (omega arith))
 
-pub sum-zero : (n : ℕ) → sum n (λ x. 0) ≡ 0
+sum-zero : (n : ℕ) → sum n (λ x. 0) ≡ 0
 unfolding sum
 sum-zero zero = refl
 sum-zero (suc n) = omega (arith, sum-zero n)
@@ -38,11 +38,11 @@ unfolding sum
 sum-swap zero m f = sym (sum-zero m)
 sum-swap (suc n) m f = ap (λ s. s + sum m (f n)) (sum-swap n m f) ∙ sym (sum-add m (λ y. sum n (λ x. f x y)) (f n))
 
-pub hit-eq : (a b : ℕ) → a ≡ b → hit a b ≡ 1
+hit-eq : (a b : ℕ) → a ≡ b → hit a b ≡ 1
 unfolding hit
 hit-eq a b e = ap one (eq-eqb a b e)
 
-pub hit-ne : (a b : ℕ) → (a ≡ b → ⊥) → hit a b ≡ 0
+hit-ne : (a b : ℕ) → (a ≡ b → ⊥) → hit a b ≡ 0
 unfolding hit
 hit-ne a b e = ap one (ne-eqb a b e)
 
@@ -126,44 +126,48 @@ unfolding shift
 and-double k g m h = rw (add-zero (g * 2)) (sym (mod-eq-of-lt (lt-of-le-of-lt (and-le-r (g * 2) m) h)) ∙ and-mod (g * 2) m k ∙ ap (bitAnd (g * 2 % 2 ^ k)) (mod-eq-of-lt h))
 
 -- ---- steps of a secret x and of the pair (r, g)
-abbrev pub Free : ℕ → (ℕ → ℕ → ℕ → ℕ) → Type 0
-Free k f = (h : ℕ → ℕ → ℕ) × ((x n : ℕ) → x < 2 ^ k → pairs k (f x) n ≡ pairs k h n)
+pub record Free (k : ℕ) (step : ℕ → ℕ → ℕ → ℕ) : Type 0 where
+  pub bare : ℕ → ℕ → ℕ
+  pub counts : (x n : ℕ) → x < 2 ^ k → pairs k (step x) n ≡ pairs k bare n
 
 module _ (k : ℕ) where
   -- the secret does not stand in it
   pub plain : (h : ℕ → ℕ → ℕ) → Free k (λ x r g. h r g)
-  plain h = (h, λ x n hx. refl)
+  plain h = record { bare = h; counts = λ x n hx. refl }
+
+  -- at each secret, it has the counts of another
+  moved : (f h : ℕ → ℕ → ℕ → ℕ) → ((x n : ℕ) → x < 2 ^ k → pairs k (f x) n ≡ pairs k (h x) n) → Free k h → Free k f
+  moved f h e a = record { bare = a .bare; counts = λ x n hx. e x n hx ∙ a .counts x n hx }
 
   -- it has the values of another
   pub like : (f h : ℕ → ℕ → ℕ → ℕ) → ((x r g : ℕ) → x < 2 ^ k → r < 2 ^ k → g < 2 ^ k → f x r g ≡ h x r g) → Free k h → Free k f
   unfolding pairs
-  like f h e a = (a .0, λ x n hx. sum-ext (2 ^ k) _ _ (λ r hr. sum-ext (2 ^ k) _ _ (λ g hg. ap (λ m. hit m n) (e x r g hx hr hg))) ∙ a .1 x n hx)
+  like f h e = moved f h (λ x n hx. sum-ext (2 ^ k) _ _ (λ r hr. sum-ext (2 ^ k) _ _ (λ g hg. ap (λ m. hit m n) (e x r g hx hr hg))))
 
   -- r becomes x ⊕ r
   pub by-xor : (f : ℕ → ℕ → ℕ → ℕ) → Free k f → Free k (λ x r g. f x (bitXor x r) g)
   unfolding pairs
-  by-xor f a =
-      (a .0, λ x n hx.
-      sum-invol (2 ^ k) (bitXor x) (λ r hr. xor-lt k x r hx hr) (λ r hr. xor-back x r) (λ r. sum (2 ^ k) (λ g. hit (f x r g) n)) ∙ a .1 x n hx)
+  by-xor f =
+      moved (λ x r g. f x (bitXor x r) g) f (λ x n hx.
+      sum-invol (2 ^ k) (bitXor x) (λ r hr. xor-lt k x r hx hr) (λ r hr. xor-back x r) (λ r. sum (2 ^ k) (λ g. hit (f x r g) n)))
 
   -- r becomes x − r
   pub by-minus : (f : ℕ → ℕ → ℕ → ℕ) → Free k f → Free k (λ x r g. f x (minus k x r) g)
   unfolding pairs
-  by-minus f a =
-      (a .0, λ x n hx.
-      sum-invol (2 ^ k) (minus k x) (λ r hr. minus-lt k x r) (λ r hr. minus-minus k x r hx hr) (λ r. sum (2 ^ k) (λ g. hit (f x r g) n)) ∙ a .1 x n hx)
+  by-minus f =
+      moved (λ x r g. f x (minus k x r) g) f (λ x n hx.
+      sum-invol (2 ^ k) (minus k x) (λ r hr. minus-lt k x r) (λ r hr. minus-minus k x r hx hr) (λ r. sum (2 ^ k) (λ g. hit (f x r g) n)))
 
   -- g becomes g ⊕ (2g ∧ m) ⊕ c, with m and c of x and r
   pub by-turn : (m c : ℕ → ℕ → ℕ) (f : ℕ → ℕ → ℕ → ℕ) → ((x r : ℕ) → x < 2 ^ k → r < 2 ^ k → (m x r < 2 ^ k) × (c x r < 2 ^ k))
       → Free k f → Free k (λ x r g. f x r (bitXor (bitXor g (bitAnd (double k g) (m x r))) (c x r)))
   unfolding pairs
-  by-turn m c f low a =
-      (a .0, λ x n hx.
+  by-turn m c f low =
+      moved (λ x r g. f x r (bitXor (bitXor g (bitAnd (double k g) (m x r))) (c x r))) f (λ x n hx.
       sum-ext (2 ^ k) _ _ (λ r hr.
       sum-ext (2 ^ k) _ (λ g. hit (f x r (turned 0 (m x r) (c x r) g)) n) (λ g hg.
       ap (λ t. hit (f x r (bitXor (bitXor g t) (c x r))) n) (sym (and-double k g (m x r) (low x r hx hr .0))))
-      ∙ sum-turned k 0 (m x r) (c x r) (λ g. hit (f x r g) n) (omega arith) (low x r hx hr .0) (low x r hx hr .1))
-      ∙ a .1 x n hx)
+      ∙ sum-turned k 0 (m x r) (c x r) (λ g. hit (f x r g) n) (omega arith) (low x r hx hr .0) (low x r hx hr .1)))
 
   -- g becomes g ⊕ c, with c of x and r
   pub by-fresh : (c : ℕ → ℕ → ℕ) (f : ℕ → ℕ → ℕ → ℕ) → ((x r : ℕ) → x < 2 ^ k → r < 2 ^ k → c x r < 2 ^ k) → Free k f → Free k (λ x r g. f x r (bitXor g (c x r)))
@@ -173,13 +177,44 @@ module _ (k : ℕ) where
       (by-turn (λ x r. 0) c f (λ x r hx hr. (pow-pos k, low x r hx hr)) a)
 
 -- ---- a record of steps, each entry taken alone
-abbrev pub Entries : ℕ → (ℕ → ℕ → ℕ → List ℕ) → Type 0
-Entries k f = (i : ℕ) → Free k (λ x r g. getD (f x r g) i 0)
+pub record Entries (k : ℕ) (steps : ℕ → ℕ → ℕ → List ℕ) : Type 0 where
+  pub at : (i : ℕ) → Free k (λ x r g. getD (steps x r g) i 0)
 
 module _ (k : ℕ) where
   pub no-entry : Entries k (λ x r g. [])
-  no-entry i = plain k (λ r g. 0)
+  no-entry = record { at = λ i. plain k (λ r g. 0) }
 
-  pub entry : (a : ℕ → ℕ → ℕ → ℕ) (f : ℕ → ℕ → ℕ → List ℕ) → Free k a → Entries k f → Entries k (λ x r g. a x r g ∷ f x r g)
-  entry a f p q zero = p
-  entry a f p q (suc i) = q i
+  pub entry : {a : ℕ → ℕ → ℕ → ℕ} {f : ℕ → ℕ → ℕ → List ℕ} → Free k a → Entries k f → Entries k (λ x r g. a x r g ∷ f x r g)
+  entry {a} {f} p q = record { at = go }
+    where
+      go : (i : ℕ) → Free k (λ x r g. getD (a x r g ∷ f x r g) i 0)
+      go zero = p
+      go (suc i) = q .at i
+
+  pub entries-like : (f h : ℕ → ℕ → ℕ → List ℕ) → ((x r g : ℕ) → x < 2 ^ k → r < 2 ^ k → g < 2 ^ k → f x r g ≡ h x r g) → Entries k h → Entries k f
+  entries-like f h e a = record { at = λ i. like k _ _ (λ x r g hx hr hg. ap (λ l. getD l i 0) (e x r g hx hr hg)) (a .at i) }
+
+-- ---- a value that some pair shows has a count, and one that no pair shows has none
+sum-least : (n i : ℕ) (f : ℕ → ℕ) → i < n → f i ≤ sum n f
+unfolding sum
+sum-least zero i f h = absurd (not-suc-le-zero h)
+sum-least (suc n) i f h = go (sum-least n i f) (ℕ-discrete i n)
+  where
+    go : (i < n → f i ≤ sum n f) → Dec (i ≡ n) → f i ≤ sum n f + f n
+    go ih (yes e) = rw e (omega arith)
+    go ih (no e) = omega (arith, ih (omega arith))
+
+module _ (k : ℕ) (f : ℕ → ℕ → ℕ) (n : ℕ) where
+  pub pairs-some : (r g : ℕ) → r < 2 ^ k → g < 2 ^ k → f r g ≡ n → 0 < pairs k f n
+  unfolding pairs
+  pairs-some r g hr hg e =
+      omega (
+        arith,
+        sum-least (2 ^ k) r (λ r. sum (2 ^ k) (λ g. hit (f r g) n)) hr,
+        sum-least (2 ^ k) g (λ g. hit (f r g) n) hg,
+        hit-eq (f r g) n e,
+      )
+
+  pub pairs-none : ((r g : ℕ) → r < 2 ^ k → g < 2 ^ k → f r g ≡ n → ⊥) → pairs k f n ≡ 0
+  unfolding pairs
+  pairs-none h = sum-ext (2 ^ k) _ (λ r. 0) (λ r hr. sum-ext (2 ^ k) _ (λ g. 0) (λ g hg. hit-ne (f r g) n (h r g hr hg)) ∙ sum-zero (2 ^ k)) ∙ sum-zero (2 ^ k)

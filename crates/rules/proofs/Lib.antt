@@ -1,0 +1,3 @@
+pub mod Affine
+pub mod Ends
+pub mod Demand3
