@@ -1,6 +1,6 @@
 -- The records' lengths, and what they end in, whatever the fresh word is: x − r after 7 entries, x ⊕ r after 5k + 5.
 use mathlib.Core.Path.{_≡_, refl, sym, ap, _∙_}
-use mathlib.Core.List.{List, [], _∷_}
+use mathlib.Core.List.{List, [], _∷_, _++_, append-assoc}
 use Prim.Native.Nat.{ℕ, zero, suc, _+_, _-_, _*_, _^_, _<_}
 use native.Mathlib.Omega.{arith}
 use lib.Bits.{bitXor, bitAnd, xor-zero-r}
@@ -65,3 +65,15 @@ a2b-ends k a r g h ha hr =
     ∙ rounds-end k a r g (bitXor t a) (k - 1) 0
     ∙ bits (t ∷ a ∷ r ∷ c ∷ []) (v 0 ⊕ v 1 ⊕ (v 0 ⊕ v 3)) (v 1 ⊕ v 2 ⊕ v 3 ⊕ v 2) tt
     ∙ ap (λ n. bitXor n r) (carry-sum k a r ha hr))
+
+-- ---- for the code's loops: one turn leaves the last entry where it was, and the whole record what it was
+pub rounds-again : (k a r o x n m t z : ℕ) → n ≡ suc m → getD (a2bRounds k a r o x n t) (5 * n) 0 ≡ z → getD (a2bRounds k a r o x m (getD (a2bRound k a r o t) 4 0)) (5 * m) 0 ≡ z
+unfolding a2bRounds a2bRound
+rounds-again k a r o x n m t z e h =
+    let more : 5 * suc m ≡ suc (suc (suc (suc (suc (5 * m))))) = omega arith in
+    rw (e, more) at h
+
+pub rounds-front : (k a r o x n m t : ℕ) (front record′ : List ℕ) → n ≡ suc m → front ++ a2bRounds k a r o x n t ≡ record′
+    → (front ++ a2bRound k a r o t) ++ a2bRounds k a r o x m (getD (a2bRound k a r o t) 4 0) ≡ record′
+unfolding a2bRounds
+rounds-front k a r o x n m t front record′ e h = rw (append-assoc front (a2bRound k a r o t)) (rw e at h)

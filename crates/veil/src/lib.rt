@@ -1,0 +1,18 @@
+// Values that the compiler regroups nothing across. LLVM knows that XOR may be taken in any order, and would take masked terms in
+// an order that unmasks them. It does not see that what is added here is zero, and a sum is no XOR: the order of the source stays.
+ghost use mathlib.Core.Path.{_≡_};
+
+// Zero, made from the word g in a way that the compiler does not see through: h + 2(h mod 3) is a multiple of 3.
+fn zero(g: u32) -> u32
+    ensures { λ r. ⌜ r ≡ 0 ⌝ }
+{
+    let h = g / 2;
+    (h + h % 3 * 2) % 3
+}
+
+// v, held beside a word g.
+pub fn held_by_word(v: u32, g: u32) -> u32
+    ensures { λ r. ⌜ r ≡ v ⌝ }
+{
+    v + zero(g)
+}
