@@ -9,6 +9,14 @@ ghost use Rattle.rules.specs.Goubin.{b2aRecord, a2bStart, a2bRound};
 ghost use Rattle.rules.specs.Calls.{b2aTwo, a2bTwo, b2aRecordCall, a2bRecordCall};
 use veil::held_by_word;
 
+// How often the loop of arithmetic to Boolean turns: once less than the width.
+const TURNS: usize = 31;
+
+// The numbers that recording forms hand back.
+const DONE: u32 = 0;
+
+const WRONG_LENGTH: u32 = 3;
+
 // a − b modulo 2^32
 fn difference(a: u32, b: u32) -> u32
     ensures { λ d. ⌜ d ≡ minus 32 a b ⌝ }
@@ -55,11 +63,11 @@ pub fn b2a_record(x1: u32, r: u32, g: u32, entries: &mut [u32]) -> u32
     ensures { λ number. ⌜ b2aRecordCall 32 x1 r g (now (entries .entry)) ≡ (number, now (entries .exit)) ⌝ }
 {
     if entries.len() != 7 {
-        return 3;
+        return WRONG_LENGTH;
     }
     let steps = b2a_steps(x1, r, g);
     put(&steps, entries, 0);
-    0
+    DONE
 }
 
 // Arithmetic to Boolean: the nine steps before the loop, in order.
@@ -97,7 +105,7 @@ pub fn a2b(a: u32, r: u32, g: u32) -> u32
     let start = a2b_start(a, r, g);
     let mut t = start[0];
     let mut i: usize = 0;
-    while i < 31 {
+    while i < TURNS {
         let turn = a2b_round(a, r, start[8], t, g);
         t = turn[4];
         i += 1;
@@ -110,18 +118,18 @@ pub fn a2b_record(a: u32, r: u32, g: u32, entries: &mut [u32]) -> u32
     ensures { λ number. ⌜ a2bRecordCall 32 a r g (now (entries .entry)) ≡ (number, now (entries .exit)) ⌝ }
 {
     if entries.len() != 165 {
-        return 3;
+        return WRONG_LENGTH;
     }
     let start = a2b_start(a, r, g);
     put(&start, entries, 0);
     let mut t = start[0];
     let mut i: usize = 0;
-    while i < 31 {
+    while i < TURNS {
         let turn = a2b_round(a, r, start[8], t, g);
         put(&turn, entries, 9 + 5 * i);
         t = turn[4];
         i += 1;
     }
     entries[164] = start[3] ^ t;
-    0
+    DONE
 }

@@ -19,7 +19,7 @@ abbrev μ-loop : tie.MeasureT-loop
 μ-loop a r g entries₀ start t₀ i₀ entries t i = 31 - i
 
 returns : tie.Need-returns Inv-loop μ-loop
-returns c = not-recorded 165 _ _ (c .if1 .taken)
+returns c = not-recorded 165 _ (c .before .before .args .entries .now) (λ e. omega arith)
 
 loop-holds : tie.Need-loop-holds Inv-loop μ-loop
 loop-holds c =

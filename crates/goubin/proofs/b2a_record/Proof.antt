@@ -10,7 +10,7 @@ use Rattle.goubin.proofs.b2a_record.Statement.{statement}
 use Rattle.goubin.proofs.b2a_record.Tie as tie
 
 returns : tie.Need-returns
-returns c = not-recorded 7 _ _ (c .if1 .taken)
+returns c = not-recorded 7 _ (c .before .before .args .entries .now) (λ e. omega arith)
 
 returns-2 : tie.Need-returns-2
 returns-2 c =
