@@ -1,4 +1,9 @@
 pub mod Affine
 pub mod Ends
 pub mod Demand3
+pub mod Rule
+pub mod Openings
+pub mod Pairs
+pub mod Addition
+pub mod Conversion
 pub mod Calls

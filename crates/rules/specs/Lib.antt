@@ -1,5 +1,9 @@
+pub mod Supply
 pub mod Numbers
 pub mod Goubin
 pub mod Independent
+pub mod Shares
+pub mod Convert
+pub mod Counts
 pub mod Calls
 pub mod Table

@@ -2,9 +2,12 @@
 use Prim.Native.Nat.{ℕ}
 use mathlib.Core.Path.{_≡_, refl}
 use mathlib.Core.List.{List, [], _∷_, map, _++_}
-use lib.ListN.{drop}
+use lib.ListN.{drop, replicate}
 use Rattle.words.specs.Word.{plus, minus, shift}
 use Rattle.rules.specs.Goubin.{psi, b2aRecord, a2bStart, a2bRound, a2bRounds, a2bRecord}
+use Rattle.rules.specs.Supply.{next, opened}
+use Rattle.rules.specs.Shares.{each, pass, along, order, column, refreshLast, refresh, expand, and, carries, add}
+use Rattle.rules.specs.Convert.{widen, halved, toBoolIn, toBool, toArith}
 
 pub record Row : Type 0 where
   pub given : List ℕ
@@ -20,14 +23,24 @@ table =
     -- P2: k=4, A=9, r=C, G=6
     row (a2bRecord 4 9 0xC 6)
     ((0xC ∷ 0xA ∷ 2 ∷ 5 ∷ 3 ∷ 0 ∷ 2 ∷ 8 ∷ 0xA ∷ []) ++ (0xC ∷ 6 ∷ 8 ∷ 0xE ∷ 0xC ∷ []) ++ (0xC ∷ 6 ∷ 8 ∷ 0xE ∷ 0xC ∷ []) ++ (0xC ∷ 6 ∷ 8 ∷ 0xE ∷ 0xC ∷ []) ++ (9 ∷ [])) ∷
+    -- P3: AND, k=8: (F0, 0F), (3C, 00), word 55
+    row (and (0xF0 ∷ 0x0F ∷ []) (0x3C ∷ 0 ∷ []) (0x55 ∷ []) 0 .0) (0x65 ∷ 0x59 ∷ []) ∷
+    -- P4: refresh (01, 02, 04) with 10, 20
+    row (refreshLast (1 ∷ 2 ∷ 4 ∷ []) (0x10 ∷ 0x20 ∷ []) 0 .0) (0x11 ∷ 0x22 ∷ 0x34 ∷ []) ∷
+    -- P5: expand (11, 22) with 01, 02
+    row (expand (0x11 ∷ 0x22 ∷ []) (1 ∷ 2 ∷ []) 0 .0) (0x10 ∷ 1 ∷ 0x20 ∷ 2 ∷ []) ∷
     -- P6: k=8, x′=r=G=00
     row (b2aRecord 8 0 0 0) (0 ∷ 0 ∷ 0 ∷ 0 ∷ 0 ∷ 0 ∷ 0 ∷ []) ∷
     -- P7: k=8, A=FF, r=01, G=00: the last of its 45 entries
     row (drop 44 (a2bRecord 8 0xFF 1 0)) (1 ∷ []) ∷
     -- P8: k=8, x′=12: Ψ(00), Ψ(34)
     row (psi 8 0x12 0 ∷ psi 8 0x12 0x34 ∷ []) (0x12 ∷ 0xF2 ∷ []) ∷
+    -- P9: W(2), W(4), W(8), as the conversion itself draws at 32 bits
+    row (map (λ n. toBool (add 32) (replicate n 0) [] 0 .1) (2 ∷ 4 ∷ 8 ∷ [])) (34 ∷ 264 ∷ 1432 ∷ []) ∷
+    -- P10: Boolean to arithmetic at 1, 2, 4 and 8 shares, as the conversion itself draws
+    row (map (λ n. toArith 32 (add 32) refresh (replicate n 0) [] 0 .1) (1 ∷ 2 ∷ 4 ∷ 8 ∷ [])) (0 ∷ 68 ∷ 462 ∷ 2342 ∷ []) ∷
     []
 
 pub reference : map (λ (r : Row). r .given) table ≡ map (λ (r : Row). r .stated) table
-unfolding table psi b2aRecord a2bStart a2bRound a2bRounds a2bRecord plus minus shift
+unfolding table psi b2aRecord a2bStart a2bRound a2bRounds a2bRecord plus minus shift next opened each pass along order column refreshLast refresh expand and carries add widen halved toBoolIn toBool toArith
 reference = refl

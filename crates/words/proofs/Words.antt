@@ -2,7 +2,7 @@
 use mathlib.Core.Path.{_≡_, refl, sym, ap, ap₂, _∙_}
 use mathlib.Core.List.{[], _∷_}
 use Prim.Native.Nat.{ℕ, zero, suc, _+_, _-_, _*_, _/_, _%_, _^_, _≤_, _<_}
-use native.Mathlib.Nat.{mod-lt, mod-eq-of-lt, mod-add-mod, add-mod-right, zero-mod, zero-mul, add-comm, add-zero, pow-suc}
+use native.Mathlib.Nat.{mod-lt, mod-eq-of-lt, mod-add-mod, add-mod, add-mod-right, zero-mod, zero-mul, add-comm, add-zero, pow-suc}
 use native.Mathlib.Omega.{arith}
 use lib.Arith.{mod-mul}
 use lib.Bits.{bitXor, bitAnd, xor-mod, and-mod, xor-block, and-block}
@@ -55,6 +55,10 @@ unfolding shift
 double-mod k j n h = let whole : k ≡ k - suc j + suc j = omega arith in rw whole (mod-mod-pow (n * 2) (k - suc j) (suc j) ∙ twice-mod j n)
 
 -- ---- sums and differences
+pub plus-mod : (k a b : ℕ) → plus k (a % 2 ^ k) (b % 2 ^ k) ≡ (a + b) % 2 ^ k
+unfolding plus
+plus-mod k a b = sym (add-mod a b (2 ^ k))
+
 -- s is a − b where s and b add up to a
 pub minus-of : (k s a b : ℕ) → s < 2 ^ k → b < 2 ^ k → (s + b) % 2 ^ k ≡ a → minus k a b ≡ s
 unfolding minus

