@@ -61,7 +61,8 @@ pub split-rule : (n value : ℕ) → 0 < n → Rule (n - 1) (Shares n value) (sp
 unfolding split opened
 split-rule n value h =
     counted
-    (bind (next-rule (n - 1)) (λ m e. give (Shares n value) (m ++ (bitXor value (opened m) ∷ []))
-    (length-append m (bitXor value (opened m) ∷ []) ∙ omega arith,
-    opened-append m (bitXor value (opened m) ∷ []) ∙ ap (bitXor (opened m)) (xor-zero-r (bitXor value (opened m))) ∙ bits (opened m ∷ value ∷ []) (v 0 ⊕ (v 1 ⊕ v 0)) (v 1) tt)))
+    (bind (next-rule (n - 1)) (λ m e. give (Shares n value) (m ++ (bitXor value (opened m) ∷ [])) (
+      length-append m (bitXor value (opened m) ∷ []) ∙ omega arith,
+      opened-append m (bitXor value (opened m) ∷ []) ∙ ap (bitXor (opened m)) (xor-zero-r (bitXor value (opened m))) ∙ bits (opened m ∷ value ∷ []) (v 0 ⊕ (v 1 ⊕ v 0)) (v 1) tt,
+    )))
     (omega arith)

@@ -6,4 +6,5 @@ pub mod Openings
 pub mod Pairs
 pub mod Addition
 pub mod Conversion
+pub mod Loops
 pub mod Calls

@@ -14,7 +14,7 @@ use Rattle.rules.proofs.Rule.{pass-rule, said}
 use Rattle.rules.proofs.Openings.{opened-set, opened-drop, opened-past, length-each, each-at}
 
 -- ---- how many pairs, and where they are
-length-along : (m i j : ℕ) → length (along m i j) ≡ m
+pub length-along : (m i j : ℕ) → length (along m i j) ≡ m
 unfolding along
 length-along zero i j = refl
 length-along (suc m) i j = ap suc (length-along m i (j + 1))

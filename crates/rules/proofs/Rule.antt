@@ -22,9 +22,9 @@ bind {S = S} {r = r} {s = s} a b =
     record {
       place = λ ws at. b (r ws at .0) (a .makes ws at) .place ws (r ws at .1) ∙ omega (arith, a .place ws at);
       same = λ ws vs at h.
-        b (r ws at .0) (a .makes ws at) .same ws vs (r ws at .1) (λ i l u. h i (omega (arith, a .place ws at)) (omega (arith, a .place ws at)))
-        ∙ ap (λ (t : S × ℕ). s (t .0) vs (t .1)) (a .same ws vs at (λ i l u. h i l (omega arith)));
-      makes = λ ws at. b (r ws at .0) (a .makes ws at) .makes ws (r ws at .1)
+          b (r ws at .0) (a .makes ws at) .same ws vs (r ws at .1) (λ i l u. h i (omega (arith, a .place ws at)) (omega (arith, a .place ws at)))
+          ∙ ap (λ (t : S × ℕ). s (t .0) vs (t .1)) (a .same ws vs at (λ i l u. h i l (omega arith)));
+      makes = λ ws at. b (r ws at .0) (a .makes ws at) .makes ws (r ws at .1);
     }
 
 -- the same rule, its count or what it makes said otherwise
@@ -33,7 +33,7 @@ said {r = r} a n f =
     record {
       place = λ ws at. a .place ws at ∙ ap (λ m. at + m) n;
       same = λ ws vs at h. a .same ws vs at (λ i l u. h i l (omega arith));
-      makes = λ ws at. f (r ws at .0) (a .makes ws at)
+      makes = λ ws at. f (r ws at .0) (a .makes ws at);
     }
 
 pub counted : {S : Type 0} {d e : ℕ} {P : S → Type 0} {r : Draw S} → Rule d P r → d ≡ e → Rule e P r
@@ -60,5 +60,5 @@ alike {S = S} {P = P} {r = r} {s = s} e a =
     record {
       place = λ ws at. ap (λ (t : S × ℕ). t .1) (e ws at) ∙ a .place ws at;
       same = λ ws vs at h. e ws at ∙ a .same ws vs at h ∙ sym (e vs at);
-      makes = λ ws at. subst (λ (t : S × ℕ). P (t .0)) (sym (e ws at)) (a .makes ws at)
+      makes = λ ws at. subst (λ (t : S × ℕ). P (t .0)) (sym (e ws at)) (a .makes ws at);
     }

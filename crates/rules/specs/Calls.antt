@@ -1,12 +1,18 @@
--- The outcome of each public call: its answer, and every lent buffer afterwards.
-use Prim.Native.Nat.{ℕ, _+_, _*_}
-use mathlib.Core.List.{List, [], _∷_}
+-- The outcome of each public call, at a width k: its answer, and every lent buffer afterwards. `came` is what the output slice held.
+use Prim.Native.Nat.{ℕ, _+_, _-_, _*_}
+use mathlib.Core.List.{List, [], _∷_, _++_}
 use lib.Bits.{bitXor}
-use lib.Dec.{eqb}
+use lib.Dec.{eqb, leb}
 use lib.ListN.{length}
 use Rattle.words.specs.Word.{plus, minus}
-use Rattle.rules.specs.Numbers.{Test, first, left}
+use Rattle.rules.specs.declared.Answer.{Answer}
+use Rattle.rules.specs.declared.Opened.{Opened}
+use Rattle.rules.specs.Supply.{Draw, split, opened, openedSum}
+use Rattle.rules.specs.Numbers.{allowed, Test, test, first, settled}
 use Rattle.rules.specs.Goubin.{b2aRecord, a2bRecord}
+use Rattle.rules.specs.Shares.{refresh, expand, and, add}
+use Rattle.rules.specs.Convert.{toBool, toArith}
+use Rattle.rules.specs.Counts.{refreshDraws, andDraws, addDraws, toBoolDraws, toArithDraws}
 
 -- ---- two shares: working forms take plain numbers and refuse nothing
 -- x − r, from x′ and r with x = x′ ⊕ r
@@ -20,11 +26,86 @@ a2bTwo k A r = bitXor (plus k A r) r
 -- ---- two shares: recording forms give 0, or 3 where the record has not exactly its length
 abbrev pub recordCall : ℕ → List ℕ → List ℕ → ℕ × List ℕ
 recordCall size steps came =
-    let number = first (record { number = 3; passed = eqb (length came) size } ∷ []) in
-    (number, left number steps came)
+    let number = first (test 3 (eqb (length came) size) ∷ []) in
+    (number, settled number steps came)
 
 abbrev pub b2aRecordCall : ℕ → ℕ → ℕ → ℕ → List ℕ → ℕ × List ℕ
 b2aRecordCall k x′ r G came = recordCall 7 (b2aRecord k x′ r G) came
 
 abbrev pub a2bRecordCall : ℕ → ℕ → ℕ → ℕ → List ℕ → ℕ × List ℕ
 a2bRecordCall k A r G came = recordCall (5 * k + 5) (a2bRecord k A r G) came
+
+-- ---- n shares: a call starts at place 0; after its own tests, 5 where the supply has fewer words than its rule draws
+abbrev pub call : List Test → Draw (List ℕ) → List ℕ → List ℕ → Answer × List ℕ
+call tests rule came ws =
+    let made = rule ws 0 in
+    let number = first (tests ++ (test 5 (leb (made .1) (length ws)) ∷ [])) in
+    (record { number = number; drawn = settled number (made .1) 0 }, settled number (made .0) came)
+
+abbrev pub splitCall : ℕ → ℕ → List ℕ → List ℕ → Answer × List ℕ
+splitCall n value came = call (test 1 (allowed n) ∷ test 3 (eqb (length came) n) ∷ []) (split n value) came
+
+-- one input of n shares, m shares out
+abbrev pub oneCall : ℕ → ℕ → List ℕ → Draw (List ℕ) → List ℕ → List ℕ → Answer × List ℕ
+oneCall n m x rule came = call (test 1 (allowed n) ∷ test 2 (eqb (length x) n) ∷ test 3 (eqb (length came) m) ∷ []) rule came
+
+-- two inputs of n shares, n shares out
+abbrev pub twoCall : ℕ → List ℕ → List ℕ → Draw (List ℕ) → List ℕ → List ℕ → Answer × List ℕ
+twoCall n x y rule came = call (test 1 (allowed n) ∷ test 2 (eqb (length x) n) ∷ test 2 (eqb (length y) n) ∷ test 3 (eqb (length came) n) ∷ []) rule came
+
+abbrev pub refreshCall : ℕ → List ℕ → List ℕ → List ℕ → Answer × List ℕ
+refreshCall n x = oneCall n n x (refresh x)
+
+abbrev pub expandCall : ℕ → List ℕ → List ℕ → List ℕ → Answer × List ℕ
+expandCall n x = oneCall n (n * 2) x (expand x)
+
+abbrev pub andCall : ℕ → List ℕ → List ℕ → List ℕ → List ℕ → Answer × List ℕ
+andCall n x y = twoCall n x y (and x y)
+
+abbrev pub addCall : ℕ → ℕ → List ℕ → List ℕ → List ℕ → List ℕ → Answer × List ℕ
+addCall k n x y = twoCall n x y (add k x y)
+
+abbrev pub a2bCall : ℕ → ℕ → List ℕ → List ℕ → List ℕ → Answer × List ℕ
+a2bCall k n a = oneCall n n a (toBool (add k) a)
+
+abbrev pub b2aCall : ℕ → ℕ → List ℕ → List ℕ → List ℕ → Answer × List ℕ
+b2aCall k n x = oneCall n n x (toArith k (add k) refresh x)
+
+-- ---- opening: no count, and the word 0 where it is refused
+abbrev pub openCall : ℕ → List ℕ → ℕ → Opened
+openCall n x word =
+    let number = first (test 1 (allowed n) ∷ test 2 (eqb (length x) n) ∷ []) in
+    record { number = number; word = settled number word 0 }
+
+abbrev pub openXorCall : ℕ → List ℕ → Opened
+openXorCall n x = openCall n x (opened x)
+
+abbrev pub openSumCall : ℕ → ℕ → List ℕ → Opened
+openSumCall k n a = openCall n a (openedSum k a)
+
+-- ---- queries: how many words a call will draw
+abbrev pub query : List Test → ℕ → Answer
+query tests drawn =
+    let number = first tests in
+    record { number = number; drawn = settled number drawn 0 }
+
+abbrev pub splitWords : ℕ → Answer
+splitWords n = query (test 1 (allowed n) ∷ []) (n - 1)
+
+abbrev pub refreshWords : ℕ → Answer
+refreshWords n = query (test 1 (allowed n) ∷ []) (refreshDraws n)
+
+abbrev pub expandWords : ℕ → Answer
+expandWords n = query (test 1 (allowed n) ∷ []) n
+
+abbrev pub andWords : ℕ → Answer
+andWords n = query (test 1 (allowed n) ∷ []) (andDraws n)
+
+abbrev pub addWords : ℕ → ℕ → Answer
+addWords k n = query (test 1 (allowed n) ∷ []) (addDraws k n)
+
+abbrev pub a2bWords : ℕ → ℕ → Answer
+a2bWords k n = query (test 1 (allowed n) ∷ []) (toBoolDraws (addDraws k) n)
+
+abbrev pub b2aWords : ℕ → ℕ → Answer
+b2aWords k n = query (test 1 (allowed n) ∷ []) (toArithDraws (addDraws k) refreshDraws n)

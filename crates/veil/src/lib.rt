@@ -16,3 +16,10 @@ pub fn held_by_word(v: u32, g: u32) -> u32
 {
     v + zero(g)
 }
+
+// v, held beside a supply of words: no slice has 2^61 of them.
+pub fn held(v: u32, words: &[u32]) -> u32
+    ensures { λ r. ⌜ r ≡ v ⌝ }
+{
+    v + (words.len() >> 61) as u32
+}

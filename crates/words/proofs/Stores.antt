@@ -1,11 +1,12 @@
 -- Lists that a loop fills from a place on, store by store.
-use mathlib.Core.Path.{_≡_, refl, sym, ap, _∙_}
+use mathlib.Core.Path.{_≡_, refl, sym, ap, ap₂, _∙_}
 use mathlib.Core.List.{List, [], _∷_, _++_}
-use Prim.Native.Nat.{ℕ, zero, suc, _+_, _≤_, _<_}
+use Prim.Native.Nat.{ℕ, zero, suc, _+_, _-_, _≤_, _<_}
+use native.Mathlib.Nat.{sub-zero}
 use native.Mathlib.Numerals.{add-one}
 use native.Mathlib.Omega.{arith}
-use lib.ListN.{length, getD, take, drop, set, length-append, drop-of-length-le}
-use lib.Seq.{sets, sets-eq, drop-cons, take-at, length-take-le}
+use lib.ListN.{length, getD, take, drop, set, replicate, length-append, length-replicate, replicate-append-replicate, drop-of-length-le}
+use lib.Seq.{sets, sets-eq, drop-cons, take-at, take-all, take-suc, take-suc-set, length-take-le}
 
 -- one store more, of what is still to be stored
 pub sets-next : (l s e : List ℕ) (at i : ℕ) → i < length s → sets l (at + i) (drop i s) ≡ e → sets (set l (at + i) (getD s i 0)) (at + (i + 1)) (drop (i + 1) s) ≡ e
@@ -22,3 +23,25 @@ pub take-sets : (l s : List ℕ) (i : ℕ) → i + length s ≤ length l → tak
 take-sets l s i h =
     ap (take (i + length s)) (sets-eq s l i h)
     ∙ take-at (take i l ++ s) (drop (i + length s) l) (i + length s) (length-append (take i l) s ∙ ap (λ n. n + length s) (length-take-le i l (omega arith)))
+
+-- ---- a list z that becomes l, entry by entry from the front
+pub filled-next : (z l : List ℕ) (i a : ℕ) → i < length z → length z ≡ length l → a ≡ getD l i 0 → take i z ≡ take i l → take (i + 1) (set z i a) ≡ take (i + 1) l
+filled-next z l i a h e f p =
+    let g : i < length l = omega arith in
+    rw (add-one i, take-suc-set z i a h, take-suc l i 0 g) (ap₂ (λ (s : List ℕ) (b : ℕ). s ++ (b ∷ [])) p f)
+
+pub filled-end : (z l : List ℕ) (i : ℕ) → length l ≤ i → length z ≡ length l → take i z ≡ take i l → z ≡ l
+filled-end z l i h e p = sym (take-all i z (omega arith)) ∙ p ∙ take-all i l h
+
+-- ---- the first n of m zeros, lent
+module _ (m n : ℕ) (room : n ≤ m) where
+  pub lent-zeros : take {A = ℕ} (n - 0) (replicate m 0) ≡ replicate n 0
+  lent-zeros =
+      rw (sub-zero n)
+      (ap (λ k. take n (replicate k 0)) whole ∙ ap (take n) (sym (replicate-append-replicate n (m - n) 0)) ∙ take-at (replicate n 0) (replicate (m - n) 0) n (length-replicate n 0))
+    where
+      whole : m ≡ n + (m - n)
+      whole = omega arith
+
+  pub lent-length : length (take {A = ℕ} (n - 0) (replicate m 0)) ≡ n
+  lent-length = ap length lent-zeros ∙ length-replicate n 0

@@ -1,0 +1,53 @@
+use borrow.Author.Needs.{needs}
+use native.Mathlib.Omega.{arith}
+use Prim.Native.Nat.{ℕ, zero, suc, _+_, _-_, _*_, _/_, _≤_, _<_}
+use mathlib.Core.Path.{_≡_, refl, sym, ap, _∙_}
+use mathlib.Core.List.{List, [], _∷_, _++_}
+use lib.ListN.{length, getD, set, take, drop, length-set}
+use Rattle.rules.specs.Shares.{pass, along, cross}
+use Rattle.rules.proofs.Loops.{along-next, along-end}
+use Rattle.shares.proofs.and_row.Statement.{statement}
+use Rattle.shares.proofs.and_row.Tie as tie
+
+abbrev Inv-loop : tie.InvT-loop
+Inv-loop i x y z₀ words at p₀ j₀ z p j =
+    (j ≤ length x) × (length z ≡ length x) × (p + (length x - j) ≤ length words)
+    × (pass (cross x y) (along (length x - j) i j) z words p ≡ pass (cross x y) (along (length x - (i + 1)) i (i + 1)) z₀ words at)
+
+abbrev μ-loop : tie.MeasureT-loop
+μ-loop i x y z₀ words at p₀ j₀ z p j = length x - j
+
+loop-holds : tie.Need-loop-holds Inv-loop μ-loop
+loop-holds c = (search needs, search needs, search needs, refl)
+
+loop-again : tie.Need-loop-again Inv-loop μ-loop
+loop-again c =
+    let l = c .before .before .before .before .before .loop in
+    let s = c .before .before .cross-at in
+    let a = c .before .before .before .before .before .before .before .before .before .before .args in
+    let n = length (a .x .now) in (
+      search needs,
+      search needs,
+      search needs,
+      rw (s .ensures) (along-next _ _ _ (l .p) _ (n - l .j) (n - (l .j + 1)) (a .i) (l .j) (omega arith) (l .inv .3)),
+    )
+
+returns : tie.Need-returns Inv-loop μ-loop
+returns c = let l = c .before .loop in along-end _ _ _ _ _ _ _ (l .j) (omega arith) (l .inv .3)
+
+pub and-row-spec : {M : Type 1} → statement M
+and-row-spec =
+    tie.close
+    (tie.spec
+    Inv-loop
+    μ-loop
+    (λ c. search needs) -- add-j
+    loop-holds
+    (λ c κs. search needs) -- cross-at-requires
+    (λ c. search needs) -- add-p
+    (λ c. search needs) -- add-j-2
+    (λ c. search needs) -- loop-less
+    loop-again
+    (λ c. search needs) -- same-length
+    returns
+    )

@@ -1,0 +1,25 @@
+use borrow.Author.Needs.{needs}
+use native.Mathlib.Omega.{arith}
+use Prim.Native.Nat.{ℕ, zero, suc, _+_, _-_, _*_, _/_, _≤_, _<_}
+use mathlib.Core.Path.{_≡_, refl, sym, ap, _∙_}
+use mathlib.Core.List.{List, [], _∷_, _++_}
+use lib.ListN.{length, getD, set, take, drop, length-set}
+use Rattle.rules.proofs.Loops.{carries-one}
+use Rattle.shares.proofs.carry_round.Statement.{statement}
+use Rattle.shares.proofs.carry_round.Tie as tie
+
+returns : tie.Need-returns
+returns c = carries-one 32 _ _ _ _ _ _ _ _ (c .before .before .before .before .before .before .before .before .and-at .ensures) (c .before .before .before .double-xor-each .ensures)
+
+pub carry-round-spec : {M : Type 1} → statement M
+carry-round-spec =
+    tie.close
+    (tie.spec
+    (λ c. search needs) -- sub-t
+    (λ c. search needs) -- part-t0-start
+    (λ c. search needs) -- part-t0-end
+    (λ c κs. search needs) -- and-at-requires
+    (λ c κs. search needs) -- double-xor-each-requires
+    (λ c. search needs) -- same-length
+    returns
+    )

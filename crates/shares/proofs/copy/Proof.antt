@@ -1,0 +1,44 @@
+use borrow.Author.Needs.{needs}
+use native.Mathlib.Omega.{arith}
+use Prim.Native.Nat.{ℕ, zero, suc, _+_, _-_, _*_, _/_, _≤_, _<_}
+use mathlib.Core.Path.{_≡_, refl, sym, ap, _∙_}
+use mathlib.Core.List.{List, [], _∷_, _++_}
+use lib.ListN.{length, getD, set, take, drop, length-set}
+use Rattle.words.proofs.Stores.{filled-next, filled-end}
+use Rattle.shares.proofs.copy.Statement.{statement}
+use Rattle.shares.proofs.copy.Tie as tie
+
+abbrev Inv-loop : tie.InvT-loop
+Inv-loop x y₀ i₀ y i = (i ≤ length x) × (length y ≡ length x) × (take i y ≡ take i x)
+
+abbrev μ-loop : tie.MeasureT-loop
+μ-loop x y₀ i₀ y i = length x - i
+
+loop-holds : tie.Need-loop-holds Inv-loop μ-loop
+loop-holds c = (search needs, c .pre, refl)
+
+loop-again : tie.Need-loop-again Inv-loop μ-loop
+loop-again c =
+    let l = c .before .before .loop in
+    (search needs, search needs, filled-next (l .y) _ (l .i) _ (omega arith) (l .inv .1) refl (l .inv .2))
+
+returns : tie.Need-returns Inv-loop μ-loop
+returns c = let l = c .before .loop in filled-end _ _ (l .i) (c .loop-test .left) (l .inv .1) (l .inv .2)
+
+pub copy-spec : {M : Type 1} → statement M
+copy-spec =
+    tie.close
+    (tie.spec
+    Inv-loop
+    μ-loop
+    loop-holds
+    (λ c. search needs) -- mul-y
+    (λ c. search needs) -- shared-slice-read-y
+    (λ c. search needs) -- mul-y-2
+    (λ c. search needs) -- slice-write-y
+    (λ c. search needs) -- add-i
+    (λ c. search needs) -- loop-less
+    loop-again
+    (λ c. search needs) -- same-length
+    returns
+    )

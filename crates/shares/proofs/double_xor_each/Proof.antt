@@ -1,0 +1,50 @@
+use borrow.Author.Needs.{needs}
+use native.Mathlib.Omega.{arith}
+use Prim.Native.Nat.{ℕ, zero, suc, _+_, _-_, _*_, _/_, _≤_, _<_}
+use mathlib.Core.Path.{_≡_, refl, sym, ap, _∙_}
+use mathlib.Core.List.{List, [], _∷_, _++_}
+use lib.ListN.{length, getD, set, take, drop, length-set}
+use lib.Bits.{bitXor, bitAnd}
+use Rattle.words.specs.Word.{shift}
+use Rattle.rules.specs.Shares.{each, doubleXor}
+use Rattle.rules.proofs.Loops.{each-next, each-end}
+use Rattle.shares.proofs.double_xor_each.Statement.{statement}
+use Rattle.shares.proofs.double_xor_each.Tie as tie
+
+abbrev Inv-loop : tie.InvT-loop
+Inv-loop x y z₀ i₀ z i = (i ≤ length x) × (length z ≡ length x) × (take i z ≡ take i (each (doubleXor 32) x y))
+
+abbrev μ-loop : tie.MeasureT-loop
+μ-loop x y z₀ i₀ z i = length x - i
+
+loop-holds : tie.Need-loop-holds Inv-loop μ-loop
+loop-holds c = (search needs, c .pre .1, refl)
+
+loop-again : tie.Need-loop-again Inv-loop μ-loop
+unfolding shift
+loop-again c =
+    let l = c .before .before .before .loop in
+    (search needs, search needs, each-next (doubleXor 32) _ _ (l .z) (l .i) (c .before .before .before .before .pre .0) (l .inv .1) (omega arith) (l .inv .2))
+
+returns : tie.Need-returns Inv-loop μ-loop
+returns c = let l = c .before .loop in each-end (doubleXor 32) _ _ _ (l .i) (c .before .before .pre .0) (l .inv .1) (c .loop-test .left) (l .inv .2)
+
+pub double-xor-each-spec : {M : Type 1} → statement M
+double-xor-each-spec =
+    tie.close
+    (tie.spec
+    Inv-loop
+    μ-loop
+    loop-holds
+    (λ c. search needs) -- mul-z
+    (λ c. search needs) -- shared-slice-read-z
+    (λ c. search needs) -- mul-z-2
+    (λ c. search needs) -- shared-slice-read-z-2
+    (λ c. search needs) -- mul-z-3
+    (λ c. search needs) -- slice-write-z
+    (λ c. search needs) -- add-i
+    (λ c. search needs) -- loop-less
+    loop-again
+    (λ c. search needs) -- same-length
+    returns
+    )

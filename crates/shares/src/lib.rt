@@ -1,0 +1,220 @@
+// The rules for n shares at 32 bits: n is the length of the slices. Each function is proved to be its rule, word for word of the supply.
+ghost use mathlib.Core.Path.{_≡_};
+ghost use mathlib.Core.List.{_++_};
+ghost use Prim.Native.Nat.{_+_, _-_, _*_, _≤_, _<_};
+ghost use lib.Bits.{bitXor, bitAnd};
+ghost use lib.ListN.{length, getD};
+ghost use Rattle.words.specs.Word.{minus};
+ghost use Rattle.rules.specs.Supply.{opened, total, next, split};
+ghost use Rattle.rules.specs.Numbers.{largest, allowed};
+ghost use Rattle.rules.specs.Shares.{each, pass, along, mix, refreshLast, refresh, expand, cross, and, doubleXor, carries, add};
+ghost use Rattle.rules.specs.Convert.{toBool, toArith};
+ghost use Rattle.rules.specs.Counts.{refreshDraws, andDraws, addDraws, toBoolDraws, toArithDraws};
+use veil::held;
+
+// The largest share count: room for shares is made for so many.
+const LARGEST: usize = 8;
+
+// The word at a place of the supply. Every draw of the library is this one.
+pub fn draw(words: &[u32], at: usize) -> u32
+    requires { ⌜ at < length (now words) ⌝ }
+    ensures { λ s. ⌜ s ≡ getD (now (words .entry)) at 0 ⌝ }
+{
+    words[at]
+}
+
+// y becomes x.
+pub fn copy(x: &[u32], y: &mut [u32])
+    requires { ⌜ length (now y) ≡ length (now x) ⌝ }
+    ensures { λ _. ⌜ now (y .exit) ≡ now (x .entry) ⌝ }
+{
+    let mut i = 0;
+    while i < x.len() {
+        y[i] = x[i];
+        i += 1;
+    }
+}
+
+// By shares: zi = xi XOR yi.
+pub fn xor_each(x: &[u32], y: &[u32], z: &mut [u32])
+    requires { ⌜ (length (now y) ≡ length (now x)) × (length (now z) ≡ length (now x)) ⌝ }
+    ensures { λ _. ⌜ now (z .exit) ≡ each bitXor (now (x .entry)) (now (y .entry)) ⌝ }
+{
+    let mut i = 0;
+    while i < x.len() {
+        z[i] = x[i] ^ y[i];
+        i += 1;
+    }
+}
+
+// By shares: zi = xi AND yi, the diagonal of the masked AND.
+fn and_each(x: &[u32], y: &[u32], z: &mut [u32])
+    requires { ⌜ (length (now y) ≡ length (now x)) × (length (now z) ≡ length (now x)) ⌝ }
+    ensures { λ _. ⌜ now (z .exit) ≡ each bitAnd (now (x .entry)) (now (y .entry)) ⌝ }
+{
+    let mut i = 0;
+    while i < x.len() {
+        z[i] = x[i] & y[i];
+        i += 1;
+    }
+}
+
+// By shares: zi = 2(xi XOR yi).
+fn double_xor_each(x: &[u32], y: &[u32], z: &mut [u32])
+    requires { ⌜ (length (now y) ≡ length (now x)) × (length (now z) ≡ length (now x)) ⌝ }
+    ensures { λ _. ⌜ now (z .exit) ≡ each (doubleXor 32) (now (x .entry)) (now (y .entry)) ⌝ }
+{
+    let mut i = 0;
+    while i < x.len() {
+        z[i] = (x[i] ^ y[i]) << 1;
+        i += 1;
+    }
+}
+
+// The XOR of all shares.
+pub fn open_xor(x: &[u32]) -> u32
+    ensures { λ r. ⌜ r ≡ opened (now (x .entry)) ⌝ }
+{
+    let mut r: u32 = 0;
+    let mut i = x.len();
+    while 0 < i {
+        i -= 1;
+        r = x[i] ^ r;
+    }
+    r
+}
+
+// One draw of the refresh: s goes into shares i and j.
+fn mix_at(i: usize, j: usize, s: u32, z: &mut [u32])
+    requires { ⌜ (i < length (now z)) × (j < length (now z)) ⌝ }
+    ensures { λ _. ⌜ now (z .exit) ≡ mix i j s (now (z .entry)) ⌝ }
+{
+    z[i] = z[i] ^ s;
+    z[j] = z[j] ^ s;
+}
+
+// Refresh in place, from the word at `at` on; the place after.
+pub fn refresh_at(y: &mut [u32], words: &[u32], at: usize) -> usize
+    requires { ⌜ (0 < length (now y)) × (at + refreshDraws (length (now y)) ≤ length (now words)) ⌝ }
+    ensures { λ r. ⌜ refresh (now (y .entry)) (now (words .entry)) at ≡ (now (y .exit), r) ⌝ }
+{
+    let last = y.len() - 1;
+    let mut p = at;
+    let mut i = 0;
+    while i < last {
+        mix_at(i, last, draw(words, p), y);
+        p += 1;
+        i += 1;
+    }
+    p
+}
+
+// Expand, n to 2n, from the word at `at` on; the place after.
+pub fn expand_at(x: &[u32], y: &mut [u32], words: &[u32], at: usize) -> usize
+    requires { ⌜ (length (now x) ≤ largest) × (length (now y) ≡ length (now x) * 2) × (at + length (now x) ≤ length (now words)) ⌝ }
+    ensures { λ r. ⌜ expand (now (x .entry)) (now (words .entry)) at ≡ (now (y .exit), r) ⌝ }
+{
+    let mut p = at;
+    let mut i = 0;
+    while i < x.len() {
+        let s = draw(words, p);
+        y[i * 2] = x[i] ^ s;
+        y[i * 2 + 1] = s;
+        p += 1;
+        i += 1;
+    }
+    p
+}
+
+// Share j of the AND, zj, gets (s ⊕ (xi ∧ yj)) ⊕ (xj ∧ yi), in this order.
+fn crossed(zj: u32, s: u32, xi: u32, yj: u32, xj: u32, yi: u32, words: &[u32]) -> u32
+    ensures { λ r. ⌜ r ≡ bitXor zj (bitXor (bitXor s (bitAnd xi yj)) (bitAnd xj yi)) ⌝ }
+{
+    zj ^ held(held(s ^ (xi & yj), words) ^ (xj & yi), words)
+}
+
+// One draw of the AND, for the pair i < j.
+fn cross_at(i: usize, j: usize, x: &[u32], y: &[u32], z: &mut [u32], words: &[u32], at: usize)
+    requires { ⌜ (i < length (now x)) × (j < length (now x)) × (length (now y) ≡ length (now x)) × (length (now z) ≡ length (now x)) × (at < length (now words)) ⌝ }
+    ensures { λ _. ⌜ now (z .exit) ≡ cross (now (x .entry)) (now (y .entry)) i j (getD (now (words .entry)) at 0) (now (z .entry)) ⌝ }
+{
+    let s = draw(words, at);
+    z[i] = z[i] ^ s;
+    z[j] = crossed(z[j], s, x[i], y[j], x[j], y[i], words);
+}
+
+// The pairs (i, i+1), (i, i+2), .. of the AND.
+fn and_row(i: usize, x: &[u32], y: &[u32], z: &mut [u32], words: &[u32], at: usize) -> usize
+    requires { ⌜ (i < length (now x)) × (length (now y) ≡ length (now x)) × (length (now z) ≡ length (now x)) × (at + (length (now x) - (i + 1)) ≤ length (now words)) ⌝ }
+    ensures { λ r. ⌜ pass (cross (now (x .entry)) (now (y .entry))) (along (length (now (x .entry)) - (i + 1)) i (i + 1)) (now (z .entry)) (now (words .entry)) at ≡ (now (z .exit), r) ⌝ }
+{
+    let mut p = at;
+    let mut j = i + 1;
+    while j < x.len() {
+        cross_at(i, j, x, y, z, words, p);
+        p += 1;
+        j += 1;
+    }
+    p
+}
+
+// AND, from the word at `at` on; the place after.
+pub fn and_at(x: &[u32], y: &[u32], z: &mut [u32], words: &[u32], at: usize) -> usize
+    requires { ⌜ (length (now y) ≡ length (now x)) × (length (now z) ≡ length (now x)) × (at + andDraws (length (now x)) ≤ length (now words)) ⌝ }
+    ensures { λ r. ⌜ and (now (x .entry)) (now (y .entry)) (now (words .entry)) at ≡ (now (z .exit), r) ⌝ }
+{
+    and_each(x, y, z);
+    let mut p = at;
+    let mut i = 0;
+    while i < x.len() {
+        p = and_row(i, x, y, z, words, p);
+        i += 1;
+    }
+    p
+}
+
+// One round of the carry loop: u = 2(AND(u, a) ⊕ w).
+fn carry_round(a: &[u32], w: &[u32], u: &mut [u32], words: &[u32], at: usize) -> usize
+    requires { ⌜ (length (now a) ≡ length (now u)) × (length (now w) ≡ length (now u)) × (length (now u) ≤ largest) × (at + andDraws (length (now u)) ≤ length (now words)) ⌝ }
+    ensures { λ r. ⌜ carries 32 (now (a .entry)) (now (w .entry)) 1 (now (u .entry)) (now (words .entry)) at ≡ (now (u .exit), r) ⌝ }
+{
+    let n = u.len();
+    let mut t0 = [0u32; LARGEST];
+    let t = &mut t0[0..n];
+    let p = and_at(u, a, t, words, at);
+    double_xor_each(t, w, u);
+    p
+}
+
+// The carry loop, k − 1 rounds.
+fn carry_at(a: &[u32], w: &[u32], u: &mut [u32], words: &[u32], at: usize) -> usize
+    requires { ⌜ (length (now a) ≡ length (now u)) × (length (now w) ≡ length (now u)) × (length (now u) ≤ largest) × (at + 31 * andDraws (length (now u)) ≤ length (now words)) ⌝ }
+    ensures { λ r. ⌜ carries 32 (now (a .entry)) (now (w .entry)) 31 (now (u .entry)) (now (words .entry)) at ≡ (now (u .exit), r) ⌝ }
+{
+    let mut p = at;
+    let mut i: usize = 0;
+    while i < 31 {
+        p = carry_round(a, w, u, words, p);
+        i += 1;
+    }
+    p
+}
+
+// Addition, from the word at `at` on; the place after. Every sum of shares in the library is this one.
+pub fn add_at(x: &[u32], y: &[u32], z: &mut [u32], words: &[u32], at: usize) -> usize
+    requires { ⌜ (length (now y) ≡ length (now x)) × (length (now z) ≡ length (now x)) × (length (now x) ≤ largest) × (at + addDraws 32 (length (now x)) ≤ length (now words)) ⌝ }
+    ensures { λ r. ⌜ add 32 (now (x .entry)) (now (y .entry)) (now (words .entry)) at ≡ (now (z .exit), r) ⌝ }
+{
+    let n = x.len();
+    let mut w0 = [0u32; LARGEST];
+    let mut a0 = [0u32; LARGEST];
+    let mut u0 = [0u32; LARGEST];
+    let w = &mut w0[0..n];
+    let a = &mut a0[0..n];
+    let u = &mut u0[0..n];
+    let p = and_at(x, y, w, words, at);
+    xor_each(x, y, a);
+    let q = carry_at(a, w, u, words, p);
+    xor_each(a, u, z);
+    q
+}
