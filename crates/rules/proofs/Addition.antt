@@ -12,7 +12,7 @@ use Rattle.words.proofs.Carry.{carry, carry-sum}
 use Rattle.rules.specs.Supply.{Rule, Shares, opened, next, split}
 use Rattle.rules.specs.Shares.{each, and, doubleXor, carries, add, expand}
 use Rattle.rules.specs.Counts.{andDraws, addDraws}
-use Rattle.rules.proofs.Rule.{give, word, bind, counted, next-rule}
+use Rattle.rules.proofs.Rule.{give, word, bind, said, counted, next-rule}
 use Rattle.rules.proofs.Openings.{opened-append, opened-zeros, length-each, xor-opens, doubleXor-opens}
 use Rattle.rules.proofs.Pairs.{and-rule}
 
@@ -30,23 +30,30 @@ carries-rule k n s t a w ha hw (suc m) c u hu =
     (length-each (doubleXor k) z w l ∙ p .0, doubleXor-opens k z w l ∙ rw (p .1, hu .1, ha .1, hw .1))))
     (sym (suc-mul m (andDraws n) ∙ add-comm (m * andDraws n) (andDraws n)))
 
-pub add-rule : (k n : ℕ) (x y : List ℕ) → 0 < k → length x ≡ n → length y ≡ n → opened x < 2 ^ k → opened y < 2 ^ k
-    → Rule (addDraws k n) (Shares n (plus k (opened x) (opened y))) (add k x y)
+-- addition opens to what the carry loop gives, whatever the shares open to
+pub add-loop-rule : (k n : ℕ) (x y : List ℕ) → 0 < k → length x ≡ n → length y ≡ n
+    → (let a = bitXor (opened x) (opened y) in Rule (addDraws k n) (Shares n (bitXor a (carry k a (bitAnd (opened x) (opened y)) (k - 1) 0))) (add k x y))
 unfolding add
-add-rule k n x y hk lx ly hx hy =
+add-loop-rule k n x y hk lx ly =
     let same : length y ≡ length x = ly ∙ sym lx in
     let a = each bitXor x y in
+    let A = bitXor (opened x) (opened y) in
+    let W = bitAnd (opened x) (opened y) in
     let la : length a ≡ n = length-each bitXor x y same ∙ lx in
     let more : k ≡ suc (k - 1) = omega arith in
     counted
     (bind (and-rule n x y lx ly)
     (λ w p.
-    bind (carries-rule k n (bitXor (opened x) (opened y)) (bitAnd (opened x) (opened y)) a w (la, xor-opens x y same) p (k - 1) 0 (replicate (length x) 0) (length-replicate (length x) 0 ∙ lx, opened-zeros (length x)))
+    bind (carries-rule k n A W a w (la, xor-opens x y same) p (k - 1) 0 (replicate (length x) 0) (length-replicate (length x) 0 ∙ lx, opened-zeros (length x)))
     (λ u q.
     let l : length u ≡ length a = q .0 ∙ sym la in
-    give (Shares n (plus k (opened x) (opened y))) (each bitXor a u)
-    (length-each bitXor a u l ∙ la, xor-opens a u l ∙ ap₂ bitXor (xor-opens x y same) (q .1) ∙ carry-sum k (opened x) (opened y) hx hy))))
+    give (Shares n (bitXor A (carry k A W (k - 1) 0))) (each bitXor a u) (length-each bitXor a u l ∙ la, xor-opens a u l ∙ ap₂ bitXor (xor-opens x y same) (q .1)))))
     (sym (ap (λ m. m * andDraws n) more ∙ suc-mul (k - 1) (andDraws n) ∙ omega arith))
+
+-- which is the sum modulo 2^k of two words of k bits
+pub add-rule : (k n : ℕ) (x y : List ℕ) → 0 < k → length x ≡ n → length y ≡ n → opened x < 2 ^ k → opened y < 2 ^ k
+    → Rule (addDraws k n) (Shares n (plus k (opened x) (opened y))) (add k x y)
+add-rule k n x y hk lx ly hx hy = said (add-loop-rule k n x y hk lx ly) refl (λ z g. (g .0, g .1 ∙ carry-sum k (opened x) (opened y) hx hy))
 
 pub expand-rule : (n : ℕ) (x : List ℕ) → length x ≡ n → Rule n (Shares (n * 2) (opened x)) (expand x)
 unfolding expand opened

@@ -6,5 +6,6 @@ pub mod Openings
 pub mod Pairs
 pub mod Addition
 pub mod Conversion
+pub mod Allowed
 pub mod Loops
 pub mod Calls

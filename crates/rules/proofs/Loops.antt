@@ -1,20 +1,24 @@
 -- The rules as the code's loops walk them: what is left, run from here, gives what the whole gives. One law to a turn and one to the end.
-use Prim.Native.Nat.{ℕ, zero, suc, _+_, _-_, _*_, _≤_, _<_}
+use Prim.Native.Nat.{ℕ, zero, suc, _+_, _-_, _*_, _/_, _≤_, _<_}
 use mathlib.Core.Path.{_≡_, refl, sym, ap, _∙_}
-use mathlib.Core.List.{List, [], _∷_, _++_, append-assoc, append-nil}
-use native.Mathlib.Nat.{suc-mul}
+use mathlib.Core.List.{List, [], _∷_, _++_, map, append-assoc, append-nil}
+use native.Mathlib.Nat.{suc-mul, add-zero, sub-zero}
 use native.Mathlib.Numerals.{add-one}
 use native.Mathlib.Omega.{arith}
 use lib.Bits.{bitXor, bitAnd}
-use lib.ListN.{length, getD, set, take, drop, replicate, drop-of-length-le}
-use lib.Seq.{drop-cons, sets, take-all}
+use lib.ListN.{length, getD, set, take, drop, replicate, length-append, length-drop, length-map, length-set, drop-of-length-le}
+use lib.Seq.{drop-cons, set-at, take-all}
 use Rattle.words.proofs.Stores.{take-sets, filled-next, filled-end}
-use Rattle.rules.specs.Supply.{Draw}
+use Rattle.words.specs.Word.{minus}
+use Rattle.rules.specs.Supply.{next, opened, split}
 use Rattle.rules.specs.Shares.{Step, each, pass, along, order, column, and, doubleXor, carries, add, expand}
-use Rattle.rules.specs.Counts.{andDraws}
+use Rattle.rules.specs.Convert.{Adder, Refresh, widen, halved, toBool, toArith}
+use Rattle.rules.specs.Counts.{andDraws, addDraws}
 use Rattle.rules.proofs.Openings.{length-each, each-at}
 use Rattle.rules.proofs.Pairs.{length-along, and-rule}
-use Rattle.rules.proofs.Rule.{pass-rule}
+use Rattle.rules.proofs.Rule.{pass-rule, next-rule}
+use Rattle.rules.proofs.Addition.{add-loop-rule, expand-rule}
+use Rattle.rules.proofs.Conversion.{toBool-more}
 
 abbrev Run : Type 0
 Run = List ℕ × ℕ
@@ -127,3 +131,84 @@ unfolding add
 add-made k x y ws w a u₀ u z at p q e f g h i =
     ap (λ (r : Run). let u = carries k (each bitXor x y) (r .0) (k - 1) (replicate (length x) 0) ws (r .1) in (each bitXor (each bitXor x y) (u .0), u .1)) e
     ∙ rw (← f, ← g, h, i)
+
+-- ---- the next words, filled from the front
+module _ (ws : List ℕ) where
+  pub length-next : (m at : ℕ) → length (next m ws at .0) ≡ m
+  length-next m at = next-rule m .makes ws at
+
+  pub next-at : (m at i : ℕ) → i < m → getD (next m ws at .0) i 0 ≡ getD ws (at + i) 0
+  unfolding next
+  next-at zero at i h = absurd (omega arith)
+  next-at (suc m) at zero h = ap (λ n. getD ws n 0) (sym (add-zero at))
+  next-at (suc m) at (suc i) h = let q : at + 1 + i ≡ at + suc i = omega arith in next-at m (at + 1) i (omega arith) ∙ ap (λ n. getD ws n 0) q
+
+  pub next-made : (m at p : ℕ) (z : List ℕ) → p ≡ at + m → z ≡ next m ws at .0 → next m ws at ≡ (z, p)
+  next-made m at p z e f = let q : next m ws at .1 ≡ p = next-rule m .place ws at ∙ sym e in rw (f, ← q)
+
+-- ---- the negatives of a list, and a zero
+negatives-at : (k : ℕ) (a : List ℕ) (i : ℕ) → i < length a → getD (map (minus k 0) a ++ (0 ∷ [])) i 0 ≡ minus k 0 (getD a i 0)
+negatives-at k [] i h = absurd (omega arith)
+negatives-at k (x ∷ a) zero h = refl
+negatives-at k (x ∷ a) (suc i) h = negatives-at k a i (omega arith)
+
+negatives-last : (k : ℕ) (a : List ℕ) → getD (map (minus k 0) a ++ (0 ∷ [])) (length a) 0 ≡ 0
+negatives-last k [] = refl
+negatives-last k (x ∷ a) = negatives-last k a
+
+length-negatives : (k : ℕ) (a : List ℕ) → length (map (minus k 0) a ++ (0 ∷ [])) ≡ length a + 1
+length-negatives k a = simp (length-append, length-map)
+
+module _ (k : ℕ) (a m : List ℕ) (room : length m ≡ length a + 1) where
+  pub negatives-next : (i s : ℕ) → i < length a → s ≡ minus k 0 (getD a i 0) → take i m ≡ take i (map (minus k 0) a ++ (0 ∷ []))
+      → take (i + 1) (set m i s) ≡ take (i + 1) (map (minus k 0) a ++ (0 ∷ []))
+  negatives-next i s h e p = filled-next m _ i s (omega arith) (room ∙ sym (length-negatives k a)) (e ∙ sym (negatives-at k a i h)) p
+
+  pub negatives-end : (i : ℕ) → i ≡ length a → take i m ≡ take i (map (minus k 0) a ++ (0 ∷ [])) → set m i 0 ≡ map (minus k 0) a ++ (0 ∷ [])
+  negatives-end i h p =
+      filled-end (set m i 0) _ (i + 1) (omega (arith, length-negatives k a)) (length-set m i 0 ∙ room ∙ sym (length-negatives k a))
+      (filled-next m _ i 0 (omega arith) (room ∙ sym (length-negatives k a)) (sym (rw (← h) at (negatives-last k a))) p)
+
+-- ---- splitting, from the masks that were drawn into the front
+pub split-made : (n value q last at p mask : ℕ) (ws m rest : List ℕ) → q ≡ n - 1 → last ≡ q → length rest ≡ 1 → next q ws at ≡ (m, p) → mask ≡ opened m
+    → split n value ws at ≡ (set (m ++ rest) last (bitXor value mask), p)
+unfolding split
+split-made n value q last at p mask ws m [] e f h g o = absurd (omega arith)
+split-made n value q last at p mask ws m (x ∷ y ∷ rest) e f h g o = absurd (omega arith)
+split-made n value q last at p mask ws m (x ∷ []) e f h g o =
+    let size : length m ≡ last = sym (ap (λ (r : Run). length (r .0)) g) ∙ length-next ws q at ∙ sym f in
+    rw (← e, g, set-at m x [] (bitXor value mask) last size, o)
+
+-- ---- places after expand and addition
+pub expand-place : (x ws y : List ℕ) (at p : ℕ) → expand x ws at ≡ (y, p) → p ≡ at + length x
+expand-place x ws y at p e = sym (ap (λ (r : Run). r .1) e) ∙ expand-rule (length x) x refl .place ws at
+
+pub add-place : (k : ℕ) (x y ws z : List ℕ) (at p : ℕ) → 0 < k → length y ≡ length x → add k x y ws at ≡ (z, p) → p ≡ at + addDraws k (length x)
+add-place k x y ws z at p hk h e = sym (ap (λ (r : Run). r .1) e) ∙ add-loop-rule k (length x) x y hk refl h .place ws at
+
+-- ---- arithmetic to Boolean, from its halves; a part of a slice is `take (e - h) (drop h a)`
+pub toBool-made : (adder : Adder) (a ws l x r y z : List ℕ) (at p q s t e : ℕ) → 1 < length a
+    → (let h = length a / 2 in
+    toBool adder (take (h - 0) a) ws at ≡ (l, p) → expand l ws p ≡ (x, q) → toBool adder (take (length a - h) (drop h a)) ws q ≡ (r, s) → expand r ws s ≡ (y, t) → adder x y ws t ≡ (z, e)
+    → toBool adder a ws at ≡ (z, e))
+unfolding halved widen
+toBool-made adder a ws l x r y z at p q s t e h f g i j k =
+    let m = length a / 2 in
+    let left : toBool adder (take m a) ws at ≡ (l, p) = rw (sub-zero m) at f in
+    let right : toBool adder (drop m a) ws q ≡ (r, s) = rw (take-all (length a - m) (drop m a) (omega (arith, length-drop m a))) at i in
+    toBool-more adder a ws at h ∙ rw (left, g, right, j, k)
+
+-- ---- Boolean to arithmetic, from what was drawn into the front
+pub next-place : (m at p : ℕ) (ws z : List ℕ) → next m ws at ≡ (z, p) → p ≡ at + m
+next-place m at p ws z e = sym (ap (λ (r : Run). r .1) e) ∙ next-rule m .place ws at
+
+pub toArith-made : (k : ℕ) (adder : Adder) (fresh : Refresh) (m last at p q r e word : ℕ) (x ws A rest negative b s y : List ℕ)
+    → m ≡ length x - 1 → last ≡ m → length rest ≡ 1 → next m ws at ≡ (A, p) → negative ≡ map (minus k 0) A ++ (0 ∷ [])
+    → toBool adder negative ws p ≡ (b, q) → adder x b ws q ≡ (s, r) → fresh s ws r ≡ (y, e) → word ≡ opened y
+    → toArith k adder fresh x ws at ≡ (set (A ++ rest) last word, e)
+unfolding toArith
+toArith-made k adder fresh m last at p q r e word x ws A [] negative b s y f g h i n j l o w = absurd (omega arith)
+toArith-made k adder fresh m last at p q r e word x ws A (a ∷ a′ ∷ rest) negative b s y f g h i n j l o w = absurd (omega arith)
+toArith-made k adder fresh m last at p q r e word x ws A (a ∷ []) negative b s y f g h i n j l o w =
+    let size : length A ≡ last = sym (ap (λ (t : Run). length (t .0)) i) ∙ length-next ws m at ∙ sym g in
+    rw (← f, i, ← n, j, l, o, set-at A a [] word last size, w)

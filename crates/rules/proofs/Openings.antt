@@ -47,6 +47,14 @@ pub opened-drop : (z : List ℕ) (i : ℕ) → i < length z → opened (drop i z
 unfolding opened
 opened-drop z i h = rw (add-one i, drop-cons z i 0 h)
 
+pub total-drop : (z : List ℕ) (i : ℕ) → i < length z → total (drop i z) ≡ getD z i 0 + total (drop (i + 1) z)
+unfolding total
+total-drop z i h = rw (add-one i, drop-cons z i 0 h)
+
+pub total-past : (z : List ℕ) (i : ℕ) → length z ≤ i → total (drop i z) ≡ 0
+unfolding total
+total-past z i h = rw (drop-of-length-le z h)
+
 pub opened-past : (z : List ℕ) (i : ℕ) → length z ≤ i → opened (drop i z) ≡ 0
 unfolding opened
 opened-past z i h = rw (drop-of-length-le z h)

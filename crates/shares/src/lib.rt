@@ -1,11 +1,12 @@
 // The rules for n shares at 32 bits: n is the length of the slices. Each function is proved to be its rule, word for word of the supply.
 ghost use mathlib.Core.Path.{_≡_};
-ghost use mathlib.Core.List.{_++_};
+ghost use mathlib.Core.Bool.{true};
+ghost use mathlib.Core.List.{[], _∷_, _++_, map};
 ghost use Prim.Native.Nat.{_+_, _-_, _*_, _≤_, _<_};
 ghost use lib.Bits.{bitXor, bitAnd};
 ghost use lib.ListN.{length, getD};
 ghost use Rattle.words.specs.Word.{minus};
-ghost use Rattle.rules.specs.Supply.{opened, total, next, split};
+ghost use Rattle.rules.specs.Supply.{opened, openedSum, next, split};
 ghost use Rattle.rules.specs.Numbers.{largest, allowed};
 ghost use Rattle.rules.specs.Shares.{each, pass, along, mix, refreshLast, refresh, expand, cross, and, doubleXor, carries, add};
 ghost use Rattle.rules.specs.Convert.{toBool, toArith};
@@ -217,4 +218,105 @@ pub fn add_at(x: &[u32], y: &[u32], z: &mut [u32], words: &[u32], at: usize) -> 
     let q = carry_at(a, w, u, words, p);
     xor_each(a, u, z);
     q
+}
+
+// The sum of all shares modulo 2^32.
+pub fn open_sum(a: &[u32]) -> u32
+    ensures { λ r. ⌜ r ≡ openedSum 32 (now (a .entry)) ⌝ }
+{
+    let mut r: u32 = 0;
+    let mut i = a.len();
+    while 0 < i {
+        i -= 1;
+        r = std::num::wrapping_add_u32(a[i], r);
+    }
+    r
+}
+
+// z becomes the next words, from the one at `at` on; the place after.
+fn draw_each(z: &mut [u32], words: &[u32], at: usize) -> usize
+    requires { ⌜ at + length (now z) ≤ length (now words) ⌝ }
+    ensures { λ r. ⌜ next (length (now (z .entry))) (now (words .entry)) at ≡ (now (z .exit), r) ⌝ }
+{
+    let mut p = at;
+    let mut i = 0;
+    while i < z.len() {
+        z[i] = draw(words, p);
+        p += 1;
+        i += 1;
+    }
+    p
+}
+
+// The shares of a value, from the word at `at` on; the place after.
+pub fn split_at(value: u32, shares: &mut [u32], words: &[u32], at: usize) -> usize
+    requires { ⌜ (0 < length (now shares)) × (at + (length (now shares) - 1) ≤ length (now words)) ⌝ }
+    ensures { λ r. ⌜ split (length (now (shares .entry))) value (now (words .entry)) at ≡ (now (shares .exit), r) ⌝ }
+{
+    let last = shares.len() - 1;
+    let masks = &mut shares[0..last];
+    let p = draw_each(masks, words, at);
+    let mask = open_xor(masks);
+    shares[last] = value ^ mask;
+    p
+}
+
+// Arithmetic to Boolean, from the word at `at` on; the place after. It calls itself on the half slices: the share count falls.
+pub fn to_bool(a: &[u32], x: &mut [u32], words: &[u32], at: usize) -> usize
+    requires { ⌜ (allowed (length (now a)) ≡ true) × (length (now x) ≡ length (now a)) × (at + toBoolDraws (addDraws 32) (length (now a)) ≤ length (now words)) ⌝ }
+    ensures { λ r. ⌜ (toBool (add 32) (now (a .entry)) (now (words .entry)) at ≡ (now (x .exit), r)) × (r ≡ at + toBoolDraws (addDraws 32) (length (now (a .entry)))) ⌝ }
+{
+    let n = a.len();
+    if n == 1 {
+        copy(a, x);
+        return at;
+    }
+    let h = n / 2;
+    let mut b0 = [0u32; LARGEST];
+    let mut l0 = [0u32; LARGEST];
+    let mut r0 = [0u32; LARGEST];
+    let b = &mut b0[0..h];
+    let l = &mut l0[0..n];
+    let r = &mut r0[0..n];
+    let p = to_bool(&a[0..h], b, words, at);
+    let q = expand_at(b, l, words, p);
+    let s = to_bool(&a[h..n], b, words, q);
+    let t = expand_at(b, r, words, s);
+    add_at(l, r, x, words, t)
+}
+
+// m becomes −a1, −a2, .., 0.
+fn negate_each(a: &[u32], m: &mut [u32])
+    requires { ⌜ length (now m) ≡ length (now a) + 1 ⌝ }
+    ensures { λ _. ⌜ now (m .exit) ≡ map (minus 32 0) (now (a .entry)) ++ (0 ∷ []) ⌝ }
+{
+    let mut i = 0;
+    while i < a.len() {
+        m[i] = std::num::wrapping_sub_u32(0, a[i]);
+        i += 1;
+    }
+    m[i] = 0;
+}
+
+// Boolean to arithmetic, from the word at `at` on; the place after.
+pub fn to_arith(x: &[u32], a: &mut [u32], words: &[u32], at: usize) -> usize
+    requires { ⌜ (allowed (length (now x)) ≡ true) × (length (now a) ≡ length (now x)) × (at + toArithDraws (addDraws 32) refreshDraws (length (now x)) ≤ length (now words)) ⌝ }
+    ensures { λ r. ⌜ toArith 32 (add 32) refresh (now (x .entry)) (now (words .entry)) at ≡ (now (a .exit), r) ⌝ }
+{
+    let n = x.len();
+    let last = n - 1;
+    let mut m0 = [0u32; LARGEST];
+    let mut b0 = [0u32; LARGEST];
+    let mut s0 = [0u32; LARGEST];
+    let m = &mut m0[0..n];
+    let b = &mut b0[0..n];
+    let s = &mut s0[0..n];
+    let front = &mut a[0..last];
+    let p = draw_each(front, words, at);
+    negate_each(front, m);
+    let q = to_bool(m, b, words, p);
+    let r = add_at(x, b, s, words, q);
+    let e = refresh_at(s, words, r);
+    a[last] = open_xor(s);
+    e
 }

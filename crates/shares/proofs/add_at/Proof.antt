@@ -24,19 +24,19 @@ pub add-at-spec : {M : Type 1} → statement M
 add-at-spec =
     tie.close
     (tie.spec
-    (λ c. search needs) -- sub-w
-    (λ c. search needs) -- part-w0-start
-    (λ c. search needs) -- part-w0-end
-    (λ c. search needs) -- sub-a
-    (λ c. search needs) -- part-a0-start
-    (λ c. search needs) -- part-a0-end
-    (λ c. search needs) -- sub-u
-    (λ c. search needs) -- part-u0-start
-    (λ c. search needs) -- part-u0-end
-    (λ c κs. search needs) -- and-at-requires
-    (λ c κs. search needs) -- xor-each-requires
+    (λ c. search needs)
+    (λ c. search needs)
+    (λ c. search needs)
+    (λ c. search needs)
+    (λ c. search needs)
+    (λ c. search needs)
+    (λ c. search needs)
+    (λ c. search needs)
+    (λ c. search needs)
+    (λ c κs. search needs)
+    (λ c κs. search needs)
     carry-at-requires
-    (λ c κs. search needs) -- xor-each-requires-2
-    (λ c. search needs) -- same-length
+    (λ c κs. search needs)
+    (λ c. search needs)
     returns
     )

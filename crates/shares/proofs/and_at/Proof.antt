@@ -51,12 +51,12 @@ and-at-spec =
     (tie.spec
     Inv-loop
     μ-loop
-    (λ c κs. search needs) -- and-each-requires
+    (λ c κs. search needs)
     loop-holds
     and-row-requires
-    (λ c. search needs) -- add-i
-    (λ c. search needs) -- loop-less
+    (λ c. search needs)
+    (λ c. search needs)
     loop-again
-    (λ c. search needs) -- same-length
+    (λ c. search needs)
     returns
     )

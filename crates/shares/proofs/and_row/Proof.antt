@@ -41,13 +41,13 @@ and-row-spec =
     (tie.spec
     Inv-loop
     μ-loop
-    (λ c. search needs) -- add-j
+    (λ c. search needs)
     loop-holds
-    (λ c κs. search needs) -- cross-at-requires
-    (λ c. search needs) -- add-p
-    (λ c. search needs) -- add-j-2
-    (λ c. search needs) -- loop-less
+    (λ c κs. search needs)
+    (λ c. search needs)
+    (λ c. search needs)
+    (λ c. search needs)
     loop-again
-    (λ c. search needs) -- same-length
+    (λ c. search needs)
     returns
     )

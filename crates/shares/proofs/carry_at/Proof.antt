@@ -50,9 +50,9 @@ carry-at-spec =
     μ-loop
     loop-holds
     carry-round-requires
-    (λ c. search needs) -- add-i
-    (λ c. search needs) -- loop-less
+    (λ c. search needs)
+    (λ c. search needs)
     loop-again
-    (λ c. search needs) -- same-length
+    (λ c. search needs)
     returns
     )

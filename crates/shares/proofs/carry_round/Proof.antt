@@ -15,11 +15,11 @@ pub carry-round-spec : {M : Type 1} → statement M
 carry-round-spec =
     tie.close
     (tie.spec
-    (λ c. search needs) -- sub-t
-    (λ c. search needs) -- part-t0-start
-    (λ c. search needs) -- part-t0-end
-    (λ c κs. search needs) -- and-at-requires
-    (λ c κs. search needs) -- double-xor-each-requires
-    (λ c. search needs) -- same-length
+    (λ c. search needs)
+    (λ c. search needs)
+    (λ c. search needs)
+    (λ c κs. search needs)
+    (λ c κs. search needs)
+    (λ c. search needs)
     returns
     )

@@ -32,13 +32,13 @@ copy-spec =
     Inv-loop
     μ-loop
     loop-holds
-    (λ c. search needs) -- mul-y
-    (λ c. search needs) -- shared-slice-read-y
-    (λ c. search needs) -- mul-y-2
-    (λ c. search needs) -- slice-write-y
-    (λ c. search needs) -- add-i
-    (λ c. search needs) -- loop-less
+    (λ c. search needs)
+    (λ c. search needs)
+    (λ c. search needs)
+    (λ c. search needs)
+    (λ c. search needs)
+    (λ c. search needs)
     loop-again
-    (λ c. search needs) -- same-length
+    (λ c. search needs)
     returns
     )

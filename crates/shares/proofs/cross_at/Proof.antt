@@ -14,24 +14,24 @@ pub cross-at-spec : {M : Type 1} → statement M
 cross-at-spec =
     tie.close
     (tie.spec
-    (λ c κs. search needs) -- draw-requires
-    (λ c. search needs) -- mul-z
-    (λ c. search needs) -- slice-read-z
-    (λ c. search needs) -- mul-z-2
-    (λ c. search needs) -- slice-write-z
-    (λ c. search needs) -- mul-crossed
-    (λ c. search needs) -- slice-read-crossed
-    (λ c. search needs) -- mul-crossed-2
-    (λ c. search needs) -- shared-slice-read-crossed
-    (λ c. search needs) -- mul-crossed-3
-    (λ c. search needs) -- shared-slice-read-crossed-2
-    (λ c. search needs) -- mul-crossed-4
-    (λ c. search needs) -- shared-slice-read-crossed-3
-    (λ c. search needs) -- mul-crossed-5
-    (λ c. search needs) -- shared-slice-read-crossed-4
-    (λ c κs. search needs) -- crossed-requires
-    (λ c. search needs) -- mul-z-3
-    (λ c. search needs) -- slice-write-z-2
-    (λ c. search needs) -- same-length
+    (λ c κs. search needs)
+    (λ c. search needs)
+    (λ c. search needs)
+    (λ c. search needs)
+    (λ c. search needs)
+    (λ c. search needs)
+    (λ c. search needs)
+    (λ c. search needs)
+    (λ c. search needs)
+    (λ c. search needs)
+    (λ c. search needs)
+    (λ c. search needs)
+    (λ c. search needs)
+    (λ c. search needs)
+    (λ c. search needs)
+    (λ c κs. search needs)
+    (λ c. search needs)
+    (λ c. search needs)
+    (λ c. search needs)
     returns
     )

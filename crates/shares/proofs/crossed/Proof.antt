@@ -14,7 +14,7 @@ pub crossed-spec : {M : Type 1} → statement M
 crossed-spec =
     tie.close
     (tie.spec
-    (λ c κs. search needs) -- held-requires
-    (λ c κs. search needs) -- held-requires-2
+    (λ c κs. search needs)
+    (λ c κs. search needs)
     returns
     )

@@ -36,15 +36,15 @@ double-xor-each-spec =
     Inv-loop
     μ-loop
     loop-holds
-    (λ c. search needs) -- mul-z
-    (λ c. search needs) -- shared-slice-read-z
-    (λ c. search needs) -- mul-z-2
-    (λ c. search needs) -- shared-slice-read-z-2
-    (λ c. search needs) -- mul-z-3
-    (λ c. search needs) -- slice-write-z
-    (λ c. search needs) -- add-i
-    (λ c. search needs) -- loop-less
+    (λ c. search needs)
+    (λ c. search needs)
+    (λ c. search needs)
+    (λ c. search needs)
+    (λ c. search needs)
+    (λ c. search needs)
+    (λ c. search needs)
+    (λ c. search needs)
     loop-again
-    (λ c. search needs) -- same-length
+    (λ c. search needs)
     returns
     )

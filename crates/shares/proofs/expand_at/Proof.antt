@@ -44,20 +44,20 @@ expand-at-spec =
     Inv-loop
     μ-loop
     loop-holds
-    (λ c κs. search needs) -- draw-requires
-    (λ c. search needs) -- mul-y
-    (λ c. search needs) -- shared-slice-read-y
-    (λ c. search needs) -- mul-y-2
-    (λ c. search needs) -- mul-y-3
-    (λ c. search needs) -- slice-write-y
-    (λ c. search needs) -- mul-y-4
-    (λ c. search needs) -- add-y
-    (λ c. search needs) -- mul-y-5
-    (λ c. simp length-set (omega arith)) -- slice-write-y-2
-    (λ c. search needs) -- add-p
-    (λ c. search needs) -- add-i
-    (λ c. search needs) -- loop-less
+    (λ c κs. search needs)
+    (λ c. search needs)
+    (λ c. search needs)
+    (λ c. search needs)
+    (λ c. search needs)
+    (λ c. search needs)
+    (λ c. search needs)
+    (λ c. search needs)
+    (λ c. search needs)
+    (λ c. simp length-set (omega arith))
+    (λ c. search needs)
+    (λ c. search needs)
+    (λ c. search needs)
     loop-again
-    (λ c. search needs) -- same-length
+    (λ c. search needs)
     returns
     )

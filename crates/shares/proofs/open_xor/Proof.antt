@@ -36,10 +36,10 @@ open-xor-spec =
     Inv-loop
     μ-loop
     loop-holds
-    (λ c. search needs) -- sub-i
-    (λ c. search needs) -- mul-r
-    (λ c. search needs) -- shared-slice-read-r
-    (λ c. search needs) -- loop-less
+    (λ c. search needs)
+    (λ c. search needs)
+    (λ c. search needs)
+    (λ c. search needs)
     loop-again
     returns
     )

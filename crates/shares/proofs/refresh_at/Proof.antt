@@ -42,14 +42,14 @@ refresh-at-spec =
     (tie.spec
     Inv-loop
     μ-loop
-    (λ c. search needs) -- sub-last
+    (λ c. search needs)
     loop-holds
-    (λ c κs. search needs) -- draw-requires
-    (λ c κs. search needs) -- mix-at-requires
-    (λ c. search needs) -- add-p
-    (λ c. search needs) -- add-i
-    (λ c. search needs) -- loop-less
+    (λ c κs. search needs)
+    (λ c κs. search needs)
+    (λ c. search needs)
+    (λ c. search needs)
+    (λ c. search needs)
     loop-again
-    (λ c. search needs) -- same-length
+    (λ c. search needs)
     returns
     )
