@@ -1,6 +1,17 @@
 // The calls that users make. Each takes any arguments at all and says its whole outcome: the answer and every lent buffer afterwards.
 ghost use mathlib.Core.Path.{_≡_};
-ghost use Rattle.rules.specs.Calls.{b2aTwo, a2bTwo, b2aRecordCall, a2bRecordCall};
+ghost use mathlib.Core.Bool.{true};
+ghost use mathlib.Core.List.{[], _∷_};
+ghost use Prim.Native.Nat.{_*_};
+ghost use lib.Dec.{eqb, leb};
+ghost use Rattle.rules.specs.Numbers.{allowed, test, first};
+ghost use Rattle.rules.specs.Counts.{refreshDraws, andDraws, addDraws, toBoolDraws, toArithDraws};
+ghost use Rattle.rules.specs.Calls.{b2aTwo, a2bTwo, b2aRecordCall, a2bRecordCall, splitCall, openXorCall, openSumCall, refreshCall, expandCall, andCall, addCall, a2bCall, b2aCall};
+ghost use Rattle.rules.specs.Calls.{query, splitWords, refreshWords, expandWords, andWords, addWords, a2bWords, b2aWords};
+use rules::Answer;
+use rules::Opened;
+
+// ---- two shares
 
 // Boolean to arithmetic, two shares: from x1 and r with x = x1 ⊕ r, and a fresh word g, the share x − r.
 #[no_mangle]
@@ -32,4 +43,403 @@ pub extern "C" fn flamivorse_a2b_2_record(a: u32, r: u32, g: u32, entries: &mut 
     ensures { λ number. ⌜ a2bRecordCall 32 a r g (now (entries .entry)) ≡ (number, now (entries .exit)) ⌝ }
 {
     goubin::a2b_record(a, r, g, entries)
+}
+
+// ---- the numbers
+
+// The share counts that calls take: 1, 2, 4 and 8.
+fn is_allowed(n: usize) -> bool
+    ensures { λ r. ⌜ r ≡ allowed n ⌝ }
+{
+    if n == 1 {
+        return true;
+    }
+    if n == 2 {
+        return true;
+    }
+    if n == 4 {
+        return true;
+    }
+    n == 8
+}
+
+// The first number that applies: of the share count, two inputs, the output, and the words needed and there.
+fn first_number(n: usize, input: bool, other: bool, output: bool, need: usize, have: usize) -> u32
+    ensures { λ r. ⌜ r ≡ first (test 1 (allowed n) ∷ test 2 input ∷ test 2 other ∷ test 3 output ∷ test 5 (leb need have) ∷ []) ⌝ }
+{
+    if !is_allowed(n) {
+        return 1;
+    }
+    if !input {
+        return 2;
+    }
+    if !other {
+        return 2;
+    }
+    if !output {
+        return 3;
+    }
+    if have < need {
+        return 5;
+    }
+    0
+}
+
+// ---- how many words are drawn, where the share count is taken; else no matter what
+
+// 0 at one share, and the number given for 2, 4 and 8.
+fn by_count(n: usize, two: usize, four: usize, eight: usize) -> usize
+    ensures { λ r. ⌜ ((n ≡ 1 → r ≡ 0) × (n ≡ 2 → r ≡ two) × (n ≡ 4 → r ≡ four) × (n ≡ 8 → r ≡ eight)) ⌝ }
+{
+    if n == 2 {
+        return two;
+    }
+    if n == 4 {
+        return four;
+    }
+    if n == 8 {
+        return eight;
+    }
+    0
+}
+
+// Splitting and refresh: n − 1.
+fn refresh_draws(n: usize) -> usize
+    ensures { λ r. ⌜ (allowed n ≡ true → refreshDraws n ≡ r) ⌝ }
+{
+    by_count(n, 1, 3, 7)
+}
+
+// AND: n(n − 1)/2.
+fn and_draws(n: usize) -> usize
+    ensures { λ r. ⌜ (allowed n ≡ true → andDraws n ≡ r) ⌝ }
+{
+    by_count(n, 1, 6, 28)
+}
+
+// Addition: 16n(n − 1).
+fn add_draws(n: usize) -> usize
+    ensures { λ r. ⌜ (allowed n ≡ true → addDraws 32 n ≡ r) ⌝ }
+{
+    by_count(n, 32, 192, 896)
+}
+
+// Arithmetic to Boolean: W(n).
+fn a2b_draws(n: usize) -> usize
+    ensures { λ r. ⌜ (allowed n ≡ true → toBoolDraws (addDraws 32) n ≡ r) ⌝ }
+{
+    by_count(n, 34, 264, 1432)
+}
+
+// Boolean to arithmetic: 2(n − 1) + W(n) + 16n(n − 1).
+fn b2a_draws(n: usize) -> usize
+    ensures { λ r. ⌜ (allowed n ≡ true → toArithDraws (addDraws 32) refreshDraws n ≡ r) ⌝ }
+{
+    by_count(n, 68, 462, 2342)
+}
+
+// ---- n shares
+
+// A value into n shares: the next n − 1 words, and the value XOR all of them.
+#[no_mangle]
+pub extern "C" fn flamivorse_split(
+    n: usize,
+    value: u32,
+    shares: &mut [u32],
+    words: &[u32],
+) -> Answer
+    ensures { λ r. ⌜ splitCall n value (now (shares .entry)) (now (words .entry)) ≡ (r, now (shares .exit)) ⌝ }
+{
+    let number = first_number(
+        n,
+        true,
+        true,
+        shares.len() == n,
+        refresh_draws(n),
+        words.len(),
+    );
+    if number != 0 {
+        return Answer {
+            number: number,
+            drawn: 0,
+        };
+    }
+    let drawn = shares::split_at(value, shares, words, 0);
+    Answer {
+        number: 0,
+        drawn: drawn,
+    }
+}
+
+// The XOR of n shares.
+#[no_mangle]
+pub extern "C" fn flamivorse_open_xor(n: usize, shares: &[u32]) -> Opened
+    ensures { λ r. ⌜ openXorCall n (now (shares .entry)) ≡ r ⌝ }
+{
+    if !is_allowed(n) {
+        return Opened { number: 1, word: 0 };
+    }
+    if shares.len() != n {
+        return Opened { number: 2, word: 0 };
+    }
+    Opened {
+        number: 0,
+        word: shares::open_xor(shares),
+    }
+}
+
+// The sum of n shares modulo 2^32.
+#[no_mangle]
+pub extern "C" fn flamivorse_open_sum(n: usize, shares: &[u32]) -> Opened
+    ensures { λ r. ⌜ openSumCall 32 n (now (shares .entry)) ≡ r ⌝ }
+{
+    if !is_allowed(n) {
+        return Opened { number: 1, word: 0 };
+    }
+    if shares.len() != n {
+        return Opened { number: 2, word: 0 };
+    }
+    Opened {
+        number: 0,
+        word: shares::open_sum(shares),
+    }
+}
+
+// Fresh shares y of what x opens to.
+#[no_mangle]
+pub extern "C" fn flamivorse_refresh(n: usize, x: &[u32], y: &mut [u32], words: &[u32]) -> Answer
+    ensures { λ r. ⌜ refreshCall n (now (x .entry)) (now (y .entry)) (now (words .entry)) ≡ (r, now (y .exit)) ⌝ }
+{
+    let number = first_number(
+        n,
+        x.len() == n,
+        true,
+        y.len() == n,
+        refresh_draws(n),
+        words.len(),
+    );
+    if number != 0 {
+        return Answer {
+            number: number,
+            drawn: 0,
+        };
+    }
+    shares::copy(x, y);
+    let drawn = shares::refresh_at(y, words, 0);
+    Answer {
+        number: 0,
+        drawn: drawn,
+    }
+}
+
+// Whether a length is 2n, for any n.
+fn is_double(length: usize, n: usize) -> bool
+    ensures { λ r. ⌜ r ≡ eqb length (n * 2) ⌝ }
+{
+    if length % 2 != 0 {
+        return false;
+    }
+    length / 2 == n
+}
+
+// 2n shares y of what the n shares x open to.
+#[no_mangle]
+pub extern "C" fn flamivorse_expand(n: usize, x: &[u32], y: &mut [u32], words: &[u32]) -> Answer
+    ensures { λ r. ⌜ expandCall n (now (x .entry)) (now (y .entry)) (now (words .entry)) ≡ (r, now (y .exit)) ⌝ }
+{
+    let number = first_number(n, x.len() == n, true, is_double(y.len(), n), n, words.len());
+    if number != 0 {
+        return Answer {
+            number: number,
+            drawn: 0,
+        };
+    }
+    let drawn = shares::expand_at(x, y, words, 0);
+    Answer {
+        number: 0,
+        drawn: drawn,
+    }
+}
+
+// Shares z of x AND y.
+#[no_mangle]
+pub extern "C" fn flamivorse_and(
+    n: usize,
+    x: &[u32],
+    y: &[u32],
+    z: &mut [u32],
+    words: &[u32],
+) -> Answer
+    ensures { λ r. ⌜ andCall n (now (x .entry)) (now (y .entry)) (now (z .entry)) (now (words .entry)) ≡ (r, now (z .exit)) ⌝ }
+{
+    let number = first_number(
+        n,
+        x.len() == n,
+        y.len() == n,
+        z.len() == n,
+        and_draws(n),
+        words.len(),
+    );
+    if number != 0 {
+        return Answer {
+            number: number,
+            drawn: 0,
+        };
+    }
+    let drawn = shares::and_at(x, y, z, words, 0);
+    Answer {
+        number: 0,
+        drawn: drawn,
+    }
+}
+
+// Shares z of x + y modulo 2^32.
+#[no_mangle]
+pub extern "C" fn flamivorse_add(
+    n: usize,
+    x: &[u32],
+    y: &[u32],
+    z: &mut [u32],
+    words: &[u32],
+) -> Answer
+    ensures { λ r. ⌜ addCall 32 n (now (x .entry)) (now (y .entry)) (now (z .entry)) (now (words .entry)) ≡ (r, now (z .exit)) ⌝ }
+{
+    let number = first_number(
+        n,
+        x.len() == n,
+        y.len() == n,
+        z.len() == n,
+        add_draws(n),
+        words.len(),
+    );
+    if number != 0 {
+        return Answer {
+            number: number,
+            drawn: 0,
+        };
+    }
+    let drawn = shares::add_at(x, y, z, words, 0);
+    Answer {
+        number: 0,
+        drawn: drawn,
+    }
+}
+
+// Boolean shares x of what the arithmetic shares a add up to.
+#[no_mangle]
+pub extern "C" fn flamivorse_a2b(n: usize, a: &[u32], x: &mut [u32], words: &[u32]) -> Answer
+    ensures { λ r. ⌜ a2bCall 32 n (now (a .entry)) (now (x .entry)) (now (words .entry)) ≡ (r, now (x .exit)) ⌝ }
+{
+    let number = first_number(
+        n,
+        a.len() == n,
+        true,
+        x.len() == n,
+        a2b_draws(n),
+        words.len(),
+    );
+    if number != 0 {
+        return Answer {
+            number: number,
+            drawn: 0,
+        };
+    }
+    let drawn = shares::to_bool(a, x, words, 0);
+    Answer {
+        number: 0,
+        drawn: drawn,
+    }
+}
+
+// Arithmetic shares a of what the Boolean shares x open to.
+#[no_mangle]
+pub extern "C" fn flamivorse_b2a(n: usize, x: &[u32], a: &mut [u32], words: &[u32]) -> Answer
+    ensures { λ r. ⌜ b2aCall 32 n (now (x .entry)) (now (a .entry)) (now (words .entry)) ≡ (r, now (a .exit)) ⌝ }
+{
+    let number = first_number(
+        n,
+        x.len() == n,
+        true,
+        a.len() == n,
+        b2a_draws(n),
+        words.len(),
+    );
+    if number != 0 {
+        return Answer {
+            number: number,
+            drawn: 0,
+        };
+    }
+    let drawn = shares::to_arith(x, a, words, 0);
+    Answer {
+        number: 0,
+        drawn: drawn,
+    }
+}
+
+// ---- how many words a call will draw
+
+// The count, where n shares are taken.
+fn told(n: usize, drawn: usize) -> Answer
+    ensures { λ r. ⌜ query (test 1 (allowed n) ∷ []) drawn ≡ r ⌝ }
+{
+    if !is_allowed(n) {
+        return Answer {
+            number: 1,
+            drawn: 0,
+        };
+    }
+    Answer {
+        number: 0,
+        drawn: drawn,
+    }
+}
+
+#[no_mangle]
+pub extern "C" fn flamivorse_split_words(n: usize) -> Answer
+    ensures { λ r. ⌜ splitWords n ≡ r ⌝ }
+{
+    told(n, refresh_draws(n))
+}
+
+#[no_mangle]
+pub extern "C" fn flamivorse_refresh_words(n: usize) -> Answer
+    ensures { λ r. ⌜ refreshWords n ≡ r ⌝ }
+{
+    told(n, refresh_draws(n))
+}
+
+#[no_mangle]
+pub extern "C" fn flamivorse_expand_words(n: usize) -> Answer
+    ensures { λ r. ⌜ expandWords n ≡ r ⌝ }
+{
+    told(n, n)
+}
+
+#[no_mangle]
+pub extern "C" fn flamivorse_and_words(n: usize) -> Answer
+    ensures { λ r. ⌜ andWords n ≡ r ⌝ }
+{
+    told(n, and_draws(n))
+}
+
+#[no_mangle]
+pub extern "C" fn flamivorse_add_words(n: usize) -> Answer
+    ensures { λ r. ⌜ addWords 32 n ≡ r ⌝ }
+{
+    told(n, add_draws(n))
+}
+
+#[no_mangle]
+pub extern "C" fn flamivorse_a2b_words(n: usize) -> Answer
+    ensures { λ r. ⌜ a2bWords 32 n ≡ r ⌝ }
+{
+    told(n, a2b_draws(n))
+}
+
+#[no_mangle]
+pub extern "C" fn flamivorse_b2a_words(n: usize) -> Answer
+    ensures { λ r. ⌜ b2aWords 32 n ≡ r ⌝ }
+{
+    told(n, b2a_draws(n))
 }

@@ -1,10 +1,10 @@
 -- A record filled from its front: what stands in it so far, and the steps that are left, are the whole record.
-use mathlib.Core.Path.{_≡_, refl, sym, ap, _∙_}
-use mathlib.Core.List.{List, [], _∷_, _++_, append-nil}
-use Prim.Native.Nat.{ℕ, suc, _+_, _-_, _*_, _≤_}
+use mathlib.Core.Path.{_≡_, ap, _∙_}
+use mathlib.Core.List.{List, _∷_, _++_, append-nil}
+use Prim.Native.Nat.{ℕ, suc, _+_, _-_, _≤_}
 use native.Mathlib.Omega.{arith}
 use lib.Bits.{bitXor}
-use lib.ListN.{length, getD, take, drop, set, drop-of-length-le}
+use lib.ListN.{length, getD, take, set, drop-of-length-le}
 use lib.Seq.{sets, sets-eq, set-split}
 use Rattle.words.proofs.Stores.{take-sets}
 use Rattle.rules.specs.Goubin.{a2bStart, a2bRound, a2bRounds, a2bRecord}

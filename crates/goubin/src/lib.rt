@@ -1,10 +1,9 @@
 // The two-share conversions of Goubin at 32 bits. The steps stand once: working and recording forms take them from the same functions.
 ghost use mathlib.Core.Path.{_≡_};
 ghost use Prim.Native.Nat.{_+_, _≤_};
-ghost use lib.Bits.{bitXor};
 ghost use lib.ListN.{length};
 ghost use lib.Seq.{sets};
-ghost use Rattle.words.specs.Word.{plus, minus};
+ghost use Rattle.words.specs.Word.{minus};
 ghost use Rattle.rules.specs.Goubin.{b2aRecord, a2bStart, a2bRound};
 ghost use Rattle.rules.specs.Calls.{b2aTwo, a2bTwo, b2aRecordCall, a2bRecordCall};
 use veil::held_by_word;

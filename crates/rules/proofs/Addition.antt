@@ -5,12 +5,12 @@ use mathlib.Core.List.{List, [], _∷_, _++_}
 use native.Mathlib.Nat.{suc-mul, add-comm}
 use native.Mathlib.Omega.{arith}
 use lib.Bits.{bitXor, bitAnd, xor-zero-r}
-use lib.ListN.{length, getD, replicate, length-replicate, length-append}
+use lib.ListN.{length, replicate, length-replicate, length-append}
 use Rattle.words.specs.Word.{plus}
 use Rattle.words.proofs.Bits.{bits, v, _⊕_}
 use Rattle.words.proofs.Carry.{carry, carry-sum}
-use Rattle.rules.specs.Supply.{Rule, Shares, opened, next, split}
-use Rattle.rules.specs.Shares.{each, and, doubleXor, carries, add, expand}
+use Rattle.rules.specs.Supply.{Rule, Shares, opened, split}
+use Rattle.rules.specs.Shares.{each, doubleXor, carries, add, expand}
 use Rattle.rules.specs.Counts.{andDraws, addDraws}
 use Rattle.rules.proofs.Rule.{give, word, bind, said, counted, next-rule}
 use Rattle.rules.proofs.Openings.{opened-append, opened-zeros, length-each, xor-opens, doubleXor-opens}

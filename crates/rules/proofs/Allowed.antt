@@ -1,5 +1,5 @@
 -- The share counts that calls take, case by case.
-use Prim.Native.Nat.{ℕ, zero, suc, _+_, _-_, _*_, _/_, _^_, _≤_, _<_}
+use Prim.Native.Nat.{ℕ, _+_, _*_, _/_, _^_, _≤_, _<_}
 use mathlib.Core.Path.{_≡_, refl, sym, subst, _∙_}
 use mathlib.Core.Bool.{Bool, true, false}
 use native.Mathlib.Omega.{arith}
@@ -67,3 +67,14 @@ halves d n h l = go (counted n h) l
     go two l = record { half = refl; even = refl; room = omega arith; more = omega arith; draws = draws-more d 2 (omega arith) }
     go four l = record { half = refl; even = refl; room = omega arith; more = omega arith; draws = draws-more d 4 (omega arith) }
     go eight l = record { half = refl; even = refl; room = omega arith; more = omega arith; draws = draws-more d 8 (omega arith) }
+
+-- a number told for each count is the rule's at that count
+pub by-count : (d : ℕ → ℕ) (n r two′ four′ eight′ : ℕ) → d 1 ≡ 0 → d 2 ≡ two′ → d 4 ≡ four′ → d 8 ≡ eight′
+    → (n ≡ 1 → r ≡ 0) × (n ≡ 2 → r ≡ two′) × (n ≡ 4 → r ≡ four′) × (n ≡ 8 → r ≡ eight′) → allowed n ≡ true → d n ≡ r
+by-count d n r two′ four′ eight′ a b c e told h = go (counted n h) told
+  where
+    go : {n : ℕ} → Count n → (n ≡ 1 → r ≡ 0) × (n ≡ 2 → r ≡ two′) × (n ≡ 4 → r ≡ four′) × (n ≡ 8 → r ≡ eight′) → d n ≡ r
+    go one t = a ∙ sym (t .0 refl)
+    go two t = b ∙ sym (t .1 refl)
+    go four t = c ∙ sym (t .2 refl)
+    go eight t = e ∙ sym (t .3 refl)

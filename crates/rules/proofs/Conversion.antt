@@ -1,16 +1,16 @@
 -- The conversions of n shares keep the secret both ways, with any addition and any refresh that do their part.
 use Prim.Native.Nat.{ℕ, zero, suc, _+_, _-_, _*_, _/_, _%_, _^_, _≤_, _<_}
-use mathlib.Core.Path.{_≡_, refl, sym, ap, ap₂, _∙_}
+use mathlib.Core.Path.{_≡_, refl, sym, ap, _∙_}
 use mathlib.Core.Bool.{Bool, true, false}
 use mathlib.Core.List.{List, [], _∷_, _++_, map}
 use native.Mathlib.Nat.{mod-lt, mod-eq-of-lt, add-mod, add-mod-mod, add-zero, add-assoc, zero-mod, pow-suc}
 use native.Mathlib.Omega.{arith}
-use lib.Bits.{bitXor, xor-zero-r}
+use lib.Bits.{xor-zero-r}
 use lib.Dec.{leb}
-use lib.ListN.{length, getD, take, drop, length-append, length-drop, length-map, take-append-drop}
+use lib.ListN.{length, take, drop, length-append, length-drop, length-map, take-append-drop}
 use lib.Pow.{pow-pos}
-use lib.Seq.{length-take-le, getD-drop, getD-take}
-use borrow.Author.Tests.{le-leb, lt-leb, leb-true, leb-false}
+use lib.Seq.{length-take-le, getD-drop}
+use borrow.Author.Tests.{le-leb, lt-leb, leb-false}
 use Rattle.words.specs.Word.{plus, minus}
 use Rattle.words.proofs.Words.{plus-mod, plus-minus, plus-lt, minus-lt}
 use Rattle.rules.specs.Supply.{Draw, Rule, Shares, Words, next, opened, total, openedSum}

@@ -5,7 +5,7 @@ use mathlib.Core.List.{List, [], _∷_, _++_, map, append-assoc, append-nil}
 use native.Mathlib.Nat.{suc-mul, add-zero, sub-zero}
 use native.Mathlib.Numerals.{add-one}
 use native.Mathlib.Omega.{arith}
-use lib.Bits.{bitXor, bitAnd}
+use lib.Bits.{bitXor}
 use lib.ListN.{length, getD, set, take, drop, replicate, length-append, length-drop, length-map, length-set, drop-of-length-le}
 use lib.Seq.{drop-cons, set-at, take-all}
 use Rattle.words.proofs.Stores.{take-sets, filled-next, filled-end}

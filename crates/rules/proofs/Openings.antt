@@ -1,16 +1,15 @@
 -- Opened values: of joined lists, of lists taken by shares, of a list with entries changed.
-use Prim.Native.Nat.{ℕ, zero, suc, _+_, _-_, _*_, _%_, _^_, _≤_, _<_}
-use mathlib.Core.Path.{_≡_, refl, sym, ap, ap₂, _∙_}
-use mathlib.Core.List.{List, [], _∷_, _++_, map}
-use native.Mathlib.Nat.{zero-mod}
+use Prim.Native.Nat.{ℕ, zero, suc, _+_, _^_, _≤_, _<_}
+use mathlib.Core.Path.{_≡_, refl, sym, ap, _∙_}
+use mathlib.Core.List.{List, [], _∷_, _++_}
 use native.Mathlib.Numerals.{add-one}
 use native.Mathlib.Omega.{arith}
-use lib.Bits.{bitXor, bitAnd, xor-lt}
-use lib.ListN.{length, getD, set, take, drop, replicate, drop-of-length-le}
+use lib.Bits.{bitXor, xor-lt}
+use lib.ListN.{length, getD, set, drop, replicate, drop-of-length-le}
 use lib.Pow.{pow-pos}
 use lib.Seq.{drop-cons}
 use Rattle.words.specs.Word.{double}
-use Rattle.words.proofs.Bits.{bits, v, _⊕_, _⊗_}
+use Rattle.words.proofs.Bits.{bits, v, _⊕_}
 use Rattle.words.proofs.Words.{xor-assoc, shift-xor, shift-zero}
 use Rattle.rules.specs.Supply.{opened, total, Words}
 use Rattle.rules.specs.Shares.{each, doubleXor}

@@ -8,7 +8,7 @@ use lib.ListN.{length, getD, set, drop, length-set, length-append}
 use Rattle.words.proofs.Bits.{bits, v, _⊕_, _⊗_}
 use Rattle.words.proofs.Words.{xor-assoc, xor-back}
 use Rattle.rules.specs.Supply.{Rule, Shares, opened}
-use Rattle.rules.specs.Shares.{each, pass, along, order, column, mix, refreshLast, refresh, cross, and}
+use Rattle.rules.specs.Shares.{each, along, order, column, mix, refreshLast, refresh, cross, and}
 use Rattle.rules.specs.Counts.{andDraws, refreshDraws}
 use Rattle.rules.proofs.Rule.{pass-rule, said}
 use Rattle.rules.proofs.Openings.{opened-set, opened-drop, opened-past, length-each, each-at}

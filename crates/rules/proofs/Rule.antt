@@ -1,10 +1,10 @@
 -- Rules that draw, put together: what a composite draws, that no other word has a say, and what it makes, from the same facts of its parts.
-use Prim.Native.Nat.{ℕ, zero, suc, _+_, _≤_, _<_}
+use Prim.Native.Nat.{ℕ, zero, suc, _+_}
 use mathlib.Core.Path.{_≡_, refl, sym, ap, _∙_, subst}
 use mathlib.Core.List.{List, [], _∷_}
 use native.Mathlib.Omega.{arith}
 use lib.ListN.{length, getD}
-use Rattle.rules.specs.Supply.{Draw, Agree, Rule, next}
+use Rattle.rules.specs.Supply.{Draw, Rule, next}
 use Rattle.rules.specs.Shares.{Step, pass}
 
 -- nothing is drawn

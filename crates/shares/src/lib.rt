@@ -8,7 +8,7 @@ ghost use lib.ListN.{length, getD};
 ghost use Rattle.words.specs.Word.{minus};
 ghost use Rattle.rules.specs.Supply.{opened, openedSum, next, split};
 ghost use Rattle.rules.specs.Numbers.{largest, allowed};
-ghost use Rattle.rules.specs.Shares.{each, pass, along, mix, refreshLast, refresh, expand, cross, and, doubleXor, carries, add};
+ghost use Rattle.rules.specs.Shares.{each, pass, along, mix, refresh, expand, cross, and, doubleXor, carries, add};
 ghost use Rattle.rules.specs.Convert.{toBool, toArith};
 ghost use Rattle.rules.specs.Counts.{refreshDraws, andDraws, addDraws, toBoolDraws, toArithDraws};
 use veil::held;

@@ -1,14 +1,13 @@
 -- The carries of a sum. `carried x y` are the carries out of each place of x + y: every adder is judged by its two laws.
 -- The carry loop, k − 1 rounds of u = 2((u ∧ (x ⊕ y)) ⊕ (x ∧ y)), finds them.
-use mathlib.Core.Path.{_≡_, refl, sym, ap, ap₂, _∙_}
-use mathlib.Core.List.{[], _∷_}
+use mathlib.Core.Path.{_≡_, sym, ap, _∙_}
 use Prim.Native.Nat.{ℕ, zero, suc, _+_, _-_, _*_, _/_, _%_, _^_, _≤_, _<_, min}
 use native.Mathlib.Nat.{mod-eq-of-lt, zero-add, add-zero}
 use native.Mathlib.Omega.{arith}
 use lib.Arith.{lt-one}
 use lib.Bits.{bitXor, bitAnd, differ, xor-lt, xor-step, and-step, xor-mod, and-mod, and-zero-r}
 use lib.Pow.{pow-pos}
-use Rattle.words.specs.Word.{plus, shift, double}
+use Rattle.words.specs.Word.{plus, double}
 use Rattle.words.proofs.Bits.{differ-lt, xor-digit, and-digit, digits}
 use Rattle.words.proofs.Words.{shift-lt, twice-mod, double-mod, xor-back}
 

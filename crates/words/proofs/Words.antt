@@ -1,11 +1,11 @@
 -- Laws of words of k bits: they stay below 2^k, sums and differences undo each other, and moving up respects ⊕ and ∧.
-use mathlib.Core.Path.{_≡_, refl, sym, ap, ap₂, _∙_}
+use mathlib.Core.Path.{_≡_, refl, sym, ap, _∙_}
 use mathlib.Core.List.{[], _∷_}
-use Prim.Native.Nat.{ℕ, zero, suc, _+_, _-_, _*_, _/_, _%_, _^_, _≤_, _<_}
+use Prim.Native.Nat.{ℕ, suc, _+_, _-_, _*_, _/_, _%_, _^_, _≤_, _<_}
 use native.Mathlib.Nat.{mod-lt, mod-eq-of-lt, mod-add-mod, add-mod, add-mod-right, zero-mod, zero-mul, add-comm, add-zero, pow-suc}
 use native.Mathlib.Omega.{arith}
 use lib.Arith.{mod-mul}
-use lib.Bits.{bitXor, bitAnd, xor-mod, and-mod, xor-block, and-block}
+use lib.Bits.{bitXor, bitAnd, xor-mod, xor-block}
 use lib.Pow.{pow-pos, mod-mod-pow}
 use Rattle.words.specs.Word.{plus, minus, shift, double}
 use Rattle.words.proofs.Bits.{bits, v, _⊕_, _⊗_}

@@ -1,5 +1,4 @@
 -- the steps end in x − r
-use mathlib.Core.Path.{_≡_}
 use native.Mathlib.Omega.{arith}
 use borrow.Author.Needs.{needs}
 use Rattle.rules.proofs.Ends.{b2a-ends}

@@ -1,7 +1,7 @@
 -- refused, the record is as it came; else the steps fill it whole
 use borrow.Author.Needs.{needs}
 use native.Mathlib.Omega.{arith}
-use mathlib.Core.Path.{_≡_, ap, _∙_}
+use mathlib.Core.Path.{ap, _∙_}
 use lib.ListN.{length}
 use Rattle.rules.proofs.Ends.{b2a-length}
 use Rattle.rules.proofs.Calls.{not-recorded}

@@ -1,5 +1,4 @@
 -- each step is the rule's, once what is held is the value itself
-use mathlib.Core.Path.{_≡_, refl}
 use borrow.Author.Needs.{needs}
 use Rattle.rules.specs.Goubin.{b2aRecord}
 use Rattle.goubin.proofs.b2a_steps.Statement.{statement}

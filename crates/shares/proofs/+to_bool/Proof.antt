@@ -1,6 +1,6 @@
 -- by the number of shares, which falls: one share is copied, more are made from their halves
 use Prim.Native.Nat.{ℕ, _+_, _-_, _*_, _/_, _≤_, _<_}
-use mathlib.Core.Path.{_≡_, refl, sym, ap, _∙_}
+use mathlib.Core.Path.{_≡_, sym, ap, _∙_}
 use mathlib.Core.List.{List}
 use native.Mathlib.Nat.{sub-zero}
 use native.Mathlib.Omega.{arith}
@@ -13,7 +13,7 @@ use Rattle.words.proofs.Stores.{lent-length}
 use Rattle.rules.specs.Shares.{add}
 use Rattle.rules.specs.Counts.{addDraws, toBoolDraws}
 use Rattle.rules.proofs.Conversion.{toBool-one, draws-one}
-use Rattle.rules.proofs.Allowed.{Halves, halves}
+use Rattle.rules.proofs.Allowed.{halves}
 use Rattle.rules.proofs.Loops.{expand-place, add-place, toBool-made}
 use Rattle.shares.proofs.to_bool.Reads as to-bool
 use Rattle.shares.proofs.to_bool.Kinds as to-bool-kinds

@@ -1,9 +1,6 @@
 use borrow.Author.Needs.{needs}
 use native.Mathlib.Omega.{arith}
-use Prim.Native.Nat.{ℕ, zero, suc, _+_, _-_, _*_, _/_, _≤_, _<_}
-use mathlib.Core.Path.{_≡_, refl, sym, ap, _∙_}
-use mathlib.Core.List.{List, [], _∷_, _++_}
-use lib.ListN.{length, getD, set, take, drop, length-set}
+use lib.ListN.{length}
 use Rattle.words.proofs.Stores.{lent-zeros, lent-length}
 use Rattle.rules.proofs.Loops.{and-place, add-made}
 use Rattle.shares.proofs.add_at.Statement.{statement}

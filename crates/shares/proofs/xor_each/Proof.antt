@@ -1,12 +1,10 @@
 use borrow.Author.Needs.{needs}
 use native.Mathlib.Omega.{arith}
-use Prim.Native.Nat.{ℕ, zero, suc, _+_, _-_, _*_, _/_, _≤_, _<_}
-use mathlib.Core.Path.{_≡_, refl, sym, ap, _∙_}
-use mathlib.Core.List.{List, [], _∷_, _++_}
-use lib.ListN.{length, getD, set, take, drop, length-set}
-use lib.Bits.{bitXor, bitAnd}
-use Rattle.words.specs.Word.{shift}
-use Rattle.rules.specs.Shares.{each, doubleXor}
+use Prim.Native.Nat.{_-_, _≤_}
+use mathlib.Core.Path.{_≡_, refl}
+use lib.ListN.{length, take}
+use lib.Bits.{bitXor}
+use Rattle.rules.specs.Shares.{each}
 use Rattle.rules.proofs.Loops.{each-next, each-end}
 use Rattle.shares.proofs.xor_each.Statement.{statement}
 use Rattle.shares.proofs.xor_each.Tie as tie

@@ -1,0 +1,12 @@
+-- what is told is what the rule draws
+use mathlib.Core.Path.{_∙_}
+use borrow.Author.Needs.{needs}
+use Rattle.rules.proofs.Calls.{same-query}
+use Rattle.flamivorse.proofs.flamivorse_a2b_words.Statement.{statement}
+use Rattle.flamivorse.proofs.flamivorse_a2b_words.Tie as tie
+
+returns : tie.Need-returns
+returns c = same-query _ _ _ (c .before .a2b-draws .ensures) ∙ c .told .ensures
+
+pub flamivorse-a2b-words-spec : {M : Type 1} → statement M
+flamivorse-a2b-words-spec = tie.close (tie.spec (λ c κs. search needs) (λ c κs. search needs) returns)
