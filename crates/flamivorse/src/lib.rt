@@ -4,7 +4,7 @@ ghost use mathlib.Core.Bool.{true};
 ghost use mathlib.Core.List.{[], _∷_};
 ghost use Prim.Native.Nat.{_*_};
 ghost use lib.Dec.{eqb, leb};
-ghost use Rattle.rules.specs.Numbers.{allowed, test, first};
+ghost use Rattle.rules.specs.Numbers.{both, allowed, test, first};
 ghost use Rattle.rules.specs.Counts.{refreshDraws, andDraws, addDraws, toBoolDraws, toArithDraws};
 ghost use Rattle.rules.specs.Calls.{b2aTwo, a2bTwo, b2aRecordCall, a2bRecordCall, splitCall, openXorCall, openSumCall, refreshCall, expandCall, andCall, addCall, a2bCall, b2aCall};
 ghost use Rattle.rules.specs.Calls.{query, splitWords, refreshWords, expandWords, andWords, addWords, a2bWords, b2aWords};
@@ -45,7 +45,19 @@ pub extern "C" fn flamivorse_a2b_2_record(a: u32, r: u32, g: u32, entries: &mut 
     goubin::a2b_record(a, r, g, entries)
 }
 
-// ---- the numbers
+// ---- the numbers of section 3
+
+const DONE: u32 = 0;
+
+const WRONG_COUNT: u32 = 1;
+
+const WRONG_INPUT: u32 = 2;
+
+const WRONG_OUTPUT: u32 = 3;
+
+const TOO_LONG: u32 = 4;
+
+const TOO_FEW_WORDS: u32 = 5;
 
 // The share counts that calls take: 1, 2, 4 and 8.
 fn is_allowed(n: usize) -> bool
@@ -63,26 +75,58 @@ fn is_allowed(n: usize) -> bool
     n == 8
 }
 
-// The first number that applies: of the share count, two inputs, the output, and the words needed and there.
-fn first_number(n: usize, input: bool, other: bool, output: bool, need: usize, have: usize) -> u32
-    ensures { λ r. ⌜ r ≡ first (test 1 (allowed n) ∷ test 2 input ∷ test 2 other ∷ test 3 output ∷ test 5 (leb need have) ∷ []) ⌝ }
+// Both.
+fn both_fit(a: bool, b: bool) -> bool
+    ensures { λ r. ⌜ r ≡ both a b ⌝ }
 {
-    if !is_allowed(n) {
-        return 1;
+    if a {
+        return b;
+    }
+    false
+}
+
+// The first number that applies: of the share count, the inputs, the output, the text, and the words needed and there.
+fn first_number(n: usize, input: bool, output: bool, text: bool, need: usize, have: usize) -> u32
+    ensures { λ r. ⌜ r ≡ first (test 1 (allowed n) ∷ test 2 input ∷ test 3 output ∷ test 4 text ∷ test 5 (leb need have) ∷ []) ⌝ }
+{
+    let counted = is_allowed(n);
+    let enough = need <= have;
+    if !counted {
+        return WRONG_COUNT;
     }
     if !input {
-        return 2;
-    }
-    if !other {
-        return 2;
+        return WRONG_INPUT;
     }
     if !output {
-        return 3;
+        return WRONG_OUTPUT;
     }
-    if have < need {
-        return 5;
+    if !text {
+        return TOO_LONG;
     }
-    0
+    if !enough {
+        return TOO_FEW_WORDS;
+    }
+    DONE
+}
+
+// A refusal: no word was drawn.
+fn refusal(number: u32) -> Answer
+    ensures { λ r. ⌜ r ≡ record { number = number; drawn = 0 } ⌝ }
+{
+    Answer {
+        number: number,
+        drawn: 0,
+    }
+}
+
+// Done, with so many words.
+fn done(drawn: usize) -> Answer
+    ensures { λ r. ⌜ r ≡ record { number = 0; drawn = drawn } ⌝ }
+{
+    Answer {
+        number: 0,
+        drawn: drawn,
+    }
 }
 
 // ---- how many words are drawn, where the share count is taken; else no matter what
@@ -153,22 +197,15 @@ pub extern "C" fn flamivorse_split(
     let number = first_number(
         n,
         true,
-        true,
         shares.len() == n,
+        true,
         refresh_draws(n),
         words.len(),
     );
-    if number != 0 {
-        return Answer {
-            number: number,
-            drawn: 0,
-        };
+    if number != DONE {
+        return refusal(number);
     }
-    let drawn = shares::split_at(value, shares, words, 0);
-    Answer {
-        number: 0,
-        drawn: drawn,
-    }
+    done(shares::split_at(value, shares, words, 0))
 }
 
 // The XOR of n shares.
@@ -176,14 +213,15 @@ pub extern "C" fn flamivorse_split(
 pub extern "C" fn flamivorse_open_xor(n: usize, shares: &[u32]) -> Opened
     ensures { λ r. ⌜ openXorCall n (now (shares .entry)) ≡ r ⌝ }
 {
-    if !is_allowed(n) {
-        return Opened { number: 1, word: 0 };
-    }
-    if shares.len() != n {
-        return Opened { number: 2, word: 0 };
+    let number = first_number(n, shares.len() == n, true, true, 0, 0);
+    if number != DONE {
+        return Opened {
+            number: number,
+            word: 0,
+        };
     }
     Opened {
-        number: 0,
+        number: DONE,
         word: shares::open_xor(shares),
     }
 }
@@ -193,14 +231,15 @@ pub extern "C" fn flamivorse_open_xor(n: usize, shares: &[u32]) -> Opened
 pub extern "C" fn flamivorse_open_sum(n: usize, shares: &[u32]) -> Opened
     ensures { λ r. ⌜ openSumCall 32 n (now (shares .entry)) ≡ r ⌝ }
 {
-    if !is_allowed(n) {
-        return Opened { number: 1, word: 0 };
-    }
-    if shares.len() != n {
-        return Opened { number: 2, word: 0 };
+    let number = first_number(n, shares.len() == n, true, true, 0, 0);
+    if number != DONE {
+        return Opened {
+            number: number,
+            word: 0,
+        };
     }
     Opened {
-        number: 0,
+        number: DONE,
         word: shares::open_sum(shares),
     }
 }
@@ -213,23 +252,16 @@ pub extern "C" fn flamivorse_refresh(n: usize, x: &[u32], y: &mut [u32], words: 
     let number = first_number(
         n,
         x.len() == n,
-        true,
         y.len() == n,
+        true,
         refresh_draws(n),
         words.len(),
     );
-    if number != 0 {
-        return Answer {
-            number: number,
-            drawn: 0,
-        };
+    if number != DONE {
+        return refusal(number);
     }
     shares::copy(x, y);
-    let drawn = shares::refresh_at(y, words, 0);
-    Answer {
-        number: 0,
-        drawn: drawn,
-    }
+    done(shares::refresh_at(y, words, 0))
 }
 
 // Whether a length is 2n, for any n.
@@ -247,18 +279,11 @@ fn is_double(length: usize, n: usize) -> bool
 pub extern "C" fn flamivorse_expand(n: usize, x: &[u32], y: &mut [u32], words: &[u32]) -> Answer
     ensures { λ r. ⌜ expandCall n (now (x .entry)) (now (y .entry)) (now (words .entry)) ≡ (r, now (y .exit)) ⌝ }
 {
-    let number = first_number(n, x.len() == n, true, is_double(y.len(), n), n, words.len());
-    if number != 0 {
-        return Answer {
-            number: number,
-            drawn: 0,
-        };
+    let number = first_number(n, x.len() == n, is_double(y.len(), n), true, n, words.len());
+    if number != DONE {
+        return refusal(number);
     }
-    let drawn = shares::expand_at(x, y, words, 0);
-    Answer {
-        number: 0,
-        drawn: drawn,
-    }
+    done(shares::expand_at(x, y, words, 0))
 }
 
 // Shares z of x AND y.
@@ -274,23 +299,16 @@ pub extern "C" fn flamivorse_and(
 {
     let number = first_number(
         n,
-        x.len() == n,
-        y.len() == n,
+        both_fit(x.len() == n, y.len() == n),
         z.len() == n,
+        true,
         and_draws(n),
         words.len(),
     );
-    if number != 0 {
-        return Answer {
-            number: number,
-            drawn: 0,
-        };
+    if number != DONE {
+        return refusal(number);
     }
-    let drawn = shares::and_at(x, y, z, words, 0);
-    Answer {
-        number: 0,
-        drawn: drawn,
-    }
+    done(shares::and_at(x, y, z, words, 0))
 }
 
 // Shares z of x + y modulo 2^32.
@@ -306,23 +324,16 @@ pub extern "C" fn flamivorse_add(
 {
     let number = first_number(
         n,
-        x.len() == n,
-        y.len() == n,
+        both_fit(x.len() == n, y.len() == n),
         z.len() == n,
+        true,
         add_draws(n),
         words.len(),
     );
-    if number != 0 {
-        return Answer {
-            number: number,
-            drawn: 0,
-        };
+    if number != DONE {
+        return refusal(number);
     }
-    let drawn = shares::add_at(x, y, z, words, 0);
-    Answer {
-        number: 0,
-        drawn: drawn,
-    }
+    done(shares::add_at(x, y, z, words, 0))
 }
 
 // Boolean shares x of what the arithmetic shares a add up to.
@@ -333,22 +344,15 @@ pub extern "C" fn flamivorse_a2b(n: usize, a: &[u32], x: &mut [u32], words: &[u3
     let number = first_number(
         n,
         a.len() == n,
-        true,
         x.len() == n,
+        true,
         a2b_draws(n),
         words.len(),
     );
-    if number != 0 {
-        return Answer {
-            number: number,
-            drawn: 0,
-        };
+    if number != DONE {
+        return refusal(number);
     }
-    let drawn = shares::to_bool(a, x, words, 0);
-    Answer {
-        number: 0,
-        drawn: drawn,
-    }
+    done(shares::to_bool(a, x, words, 0))
 }
 
 // Arithmetic shares a of what the Boolean shares x open to.
@@ -359,22 +363,15 @@ pub extern "C" fn flamivorse_b2a(n: usize, x: &[u32], a: &mut [u32], words: &[u3
     let number = first_number(
         n,
         x.len() == n,
-        true,
         a.len() == n,
+        true,
         b2a_draws(n),
         words.len(),
     );
-    if number != 0 {
-        return Answer {
-            number: number,
-            drawn: 0,
-        };
+    if number != DONE {
+        return refusal(number);
     }
-    let drawn = shares::to_arith(x, a, words, 0);
-    Answer {
-        number: 0,
-        drawn: drawn,
-    }
+    done(shares::to_arith(x, a, words, 0))
 }
 
 // ---- how many words a call will draw
@@ -383,16 +380,11 @@ pub extern "C" fn flamivorse_b2a(n: usize, x: &[u32], a: &mut [u32], words: &[u3
 fn told(n: usize, drawn: usize) -> Answer
     ensures { λ r. ⌜ query (test 1 (allowed n) ∷ []) drawn ≡ r ⌝ }
 {
-    if !is_allowed(n) {
-        return Answer {
-            number: 1,
-            drawn: 0,
-        };
+    let number = first_number(n, true, true, true, 0, 0);
+    if number != DONE {
+        return refusal(number);
     }
-    Answer {
-        number: 0,
-        drawn: drawn,
-    }
+    done(drawn)
 }
 
 #[no_mangle]

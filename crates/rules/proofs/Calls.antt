@@ -10,7 +10,7 @@ use lib.ListN.{length}
 use borrow.Author.Tests.{eqb-true, eq-eqb, ne-eqb, leb-true}
 use Rattle.rules.specs.declared.Answer.{Answer}
 use Rattle.rules.specs.Supply.{Draw, Words, split}
-use Rattle.rules.specs.Numbers.{allowed, Test, test, orElse, first, settled}
+use Rattle.rules.specs.Numbers.{both, allowed, Test, test, orElse, first, settled}
 use Rattle.rules.specs.Shares.{refresh, expand, and, add}
 use Rattle.rules.specs.Convert.{toBool, toArith}
 use Rattle.rules.specs.Counts.{refreshDraws, andDraws, addDraws, toBoolDraws, toArithDraws}
@@ -34,55 +34,61 @@ pub recorded : (size : ℕ) (steps came entries : List ℕ) → length came ≡ 
 unfolding first
 recorded size steps came entries h e = rw (eq-eqb (length came) size h, e)
 
--- ---- calls on n shares: the tests of the count, of two inputs and of the output, then the supply
+-- ---- calls on n shares: the tests of the count, the input, the output and the text, then the supply
 abbrev pub tests : ℕ → Bool → Bool → Bool → List Test
-tests n a b c = test 1 (allowed n) ∷ test 2 a ∷ test 2 b ∷ test 3 c ∷ []
+tests n a b c = test 1 (allowed n) ∷ test 2 a ∷ test 3 b ∷ test 4 c ∷ []
 
 pub record Passed (n : ℕ) (a b c : Bool) (need have : ℕ) : Type 0 where
   pub count : allowed n ≡ true
   pub input : a ≡ true
-  pub other : b ≡ true
-  pub output : c ≡ true
+  pub output : b ≡ true
+  pub text : c ≡ true
   pub enough : need ≤ have
 
-pub passed : (n : ℕ) (a b c : Bool) (need have number : ℕ) → number ≡ first (tests n a b c ++ (test 5 (leb need have) ∷ [])) → number ≡ 0 → Passed n a b c need have
-unfolding first
-passed n a b c need have number is h = go (allowed n) a b c (leb need have) refl refl refl refl refl (sym is ∙ h)
-  where
-    go : (t a′ b′ c′ e : Bool) → allowed n ≡ t → a ≡ a′ → b ≡ b′ → c ≡ c′ → leb need have ≡ e → orElse t (orElse a′ (orElse b′ (orElse c′ (orElse e 0 5) 3) 2) 2) 1 ≡ 0
-        → Passed n a b c need have
-    go true true true true true p q r s t z = record { count = p; input = q; other = r; output = s; enough = leb-true need have t }
-    go true true true true false p q r s t z = absurd (omega arith)
-    go true true true false e p q r s t z = absurd (omega arith)
-    go true true false c e p q r s t z = absurd (omega arith)
-    go true false b c e p q r s t z = absurd (omega arith)
-    go false a b c e p q r s t z = absurd (omega arith)
-
-module _ (n : ℕ) (a b c : Bool) (need : ℕ) (rule : Draw (List ℕ)) (came ws : List ℕ) (number : ℕ)
-    (is : number ≡ first (tests n a b c ++ (test 5 (leb need (length ws)) ∷ [])))
-    (draws : allowed n ≡ true → a ≡ true → b ≡ true → c ≡ true → rule ws 0 .1 ≡ need) where
-  -- the number by the rule's own draws
-  own : number ≡ first (tests n a b c ++ (test 5 (leb (rule ws 0 .1) (length ws)) ∷ []))
+module _ (n : ℕ) (a b c : Bool) (need have number : ℕ) (is : number ≡ first (tests n a b c ++ (test 5 (leb need have) ∷ []))) where
+  pub passed : number ≡ 0 → Passed n a b c need have
   unfolding first
-  own = is ∙ go (allowed n) a b c draws
+  passed h = go (allowed n) a b c (leb need have) refl refl refl refl refl (sym is ∙ h)
     where
-      go : (t a b c : Bool) → (t ≡ true → a ≡ true → b ≡ true → c ≡ true → rule ws 0 .1 ≡ need)
-          → orElse t (orElse a (orElse b (orElse c (orElse (leb need (length ws)) 0 5) 3) 2) 2) 1 ≡ orElse t (orElse a (orElse b (orElse c (orElse (leb (rule ws 0 .1) (length ws)) 0 5) 3) 2) 2) 1
+      go : (t a′ b′ c′ e : Bool) → allowed n ≡ t → a ≡ a′ → b ≡ b′ → c ≡ c′ → leb need have ≡ e → orElse t (orElse a′ (orElse b′ (orElse c′ (orElse e 0 5) 4) 3) 2) 1 ≡ 0
+          → Passed n a b c need have
+      go true true true true true p q r s t z = record { count = p; input = q; output = r; text = s; enough = leb-true need have t }
+      go true true true true false p q r s t z = absurd (omega arith)
+      go true true true false e p q r s t z = absurd (omega arith)
+      go true true false c e p q r s t z = absurd (omega arith)
+      go true false b c e p q r s t z = absurd (omega arith)
+      go false a b c e p q r s t z = absurd (omega arith)
+
+  -- the number by the rule's own draws
+  pub own : (drawn : ℕ) → (allowed n ≡ true → a ≡ true → b ≡ true → c ≡ true → drawn ≡ need) → number ≡ first (tests n a b c ++ (test 5 (leb drawn have) ∷ []))
+  unfolding first
+  own drawn draws = is ∙ go (allowed n) a b c draws
+    where
+      go : (t a b c : Bool) → (t ≡ true → a ≡ true → b ≡ true → c ≡ true → drawn ≡ need)
+          → orElse t (orElse a (orElse b (orElse c (orElse (leb need have) 0 5) 4) 3) 2) 1 ≡ orElse t (orElse a (orElse b (orElse c (orElse (leb drawn have) 0 5) 4) 3) 2) 1
       go false a b c d = refl
       go true false b c d = refl
       go true true false c d = refl
       go true true true false d = refl
       go true true true true d = rw (d refl refl refl refl)
 
-  pub refused : (number ≡ 0 → ⊥) → call (tests n a b c) rule came ws ≡ (record { number = number; drawn = 0 }, came)
-  refused h = rw (← own) (go number h)
-    where
-      go : (m : ℕ) → (m ≡ 0 → ⊥) → (let made = rule ws 0 in _≡_ {A = Answer × List ℕ} (record { number = m; drawn = settled m (made .1) 0 }, settled m (made .0) came) (record { number = m; drawn = 0 }, came))
-      go zero h = absurd (h refl)
-      go (suc m) h = refl
+-- a refusal leaves all as it came
+pub settled-refused : {A : Type 0} (number : ℕ) (done came : A) → (number ≡ 0 → ⊥) → settled number done came ≡ came
+settled-refused zero done came h = absurd (h refl)
+settled-refused (suc number) done came h = refl
 
-  pub done : number ≡ 0 → (after : List ℕ) (drawn : ℕ) → rule ws 0 ≡ (after, drawn) → call (tests n a b c) rule came ws ≡ (record { number = 0; drawn = drawn }, after)
-  done h after drawn e = rw (← own, h, e)
+pub settled-done : {A : Type 0} (number : ℕ) (done came : A) → number ≡ 0 → settled number done came ≡ done
+settled-done number done came h = rw h
+
+module _ (n : ℕ) (a b c : Bool) (need : ℕ) (rule : Draw (List ℕ)) (came ws : List ℕ) (number : ℕ) (answer : Answer)
+    (is : number ≡ first (tests n a b c ++ (test 5 (leb need (length ws)) ∷ [])))
+    (draws : allowed n ≡ true → a ≡ true → b ≡ true → c ≡ true → rule ws 0 .1 ≡ need) where
+  pub refused : (number ≡ 0 → ⊥) → answer ≡ record { number = number; drawn = 0 } → call (tests n a b c) rule came ws ≡ (answer, came)
+  refused h e =
+      rw (← own n a b c need (length ws) number is (rule ws 0 .1) draws, settled-refused number (rule ws 0 .1) 0 h, settled-refused number (rule ws 0 .0) came h, e)
+
+  pub done : number ≡ 0 → (after : List ℕ) (drawn : ℕ) → rule ws 0 ≡ (after, drawn) → answer ≡ record { number = 0; drawn = drawn } → call (tests n a b c) rule came ws ≡ (answer, after)
+  done h after drawn e f = rw (← own n a b c need (length ws) number is (rule ws 0 .1) draws, h, e, f)
 
 -- ---- what the rules draw, at the lengths that were tested
 module _ (n : ℕ) (ws : List ℕ) where
@@ -116,26 +122,20 @@ module _ (n : ℕ) (ws : List ℕ) where
         ∙ zero-add (toArithDraws (addDraws k) refreshDraws (length x)) ∙ ap (toArithDraws (addDraws k) refreshDraws) e
 
 -- ---- openings and queries
-module _ (n : ℕ) (x : List ℕ) (word : ℕ) where
-  pub not-counted : allowed n ≡ false → openCall n x word ≡ record { number = 1; word = 0 }
-  unfolding first
-  not-counted h = rw h
+module _ (n : ℕ) (number : ℕ) where
+  module _ (x : List ℕ) (word : ℕ) (is : number ≡ first (test 1 (allowed n) ∷ test 2 (eqb (length x) n) ∷ [])) where
+    pub not-opened : (number ≡ 0 → ⊥) → openCall n x word ≡ record { number = number; word = 0 }
+    not-opened h = rw (← is, settled-refused number word 0 h)
 
-  pub not-opened : allowed n ≡ true → (length x ≡ n → ⊥) → openCall n x word ≡ record { number = 2; word = 0 }
-  unfolding first
-  not-opened h l = rw (h, ne-eqb (length x) n l)
+    pub was-opened : number ≡ 0 → openCall n x word ≡ record { number = 0; word = word }
+    was-opened h = rw (← is, h)
 
-  pub was-opened : allowed n ≡ true → length x ≡ n → openCall n x word ≡ record { number = 0; word = word }
-  unfolding first
-  was-opened h l = rw (h, eq-eqb (length x) n l)
+  module _ (is : number ≡ first (test 1 (allowed n) ∷ [])) (answer : Answer) (drawn : ℕ) where
+    pub not-told : (number ≡ 0 → ⊥) → answer ≡ record { number = number; drawn = 0 } → query (test 1 (allowed n) ∷ []) drawn ≡ answer
+    not-told h e = rw (← is, settled-refused number drawn 0 h, e)
 
-pub no-query : (n drawn : ℕ) → allowed n ≡ false → query (test 1 (allowed n) ∷ []) drawn ≡ record { number = 1; drawn = 0 }
-unfolding first
-no-query n drawn h = rw h
-
-pub was-query : (n drawn need : ℕ) → allowed n ≡ true → need ≡ drawn → query (test 1 (allowed n) ∷ []) drawn ≡ record { number = 0; drawn = need }
-unfolding first
-was-query n drawn need h e = rw (h, e)
+    pub was-told : number ≡ 0 → answer ≡ record { number = 0; drawn = drawn } → query (test 1 (allowed n) ∷ []) drawn ≡ answer
+    was-told h e = rw (← is, h, e)
 
 -- a query by a number that is the rule's where the count is taken
 pub same-query : (n drawn need : ℕ) → (allowed n ≡ true → drawn ≡ need) → query (test 1 (allowed n) ∷ []) drawn ≡ query (test 1 (allowed n) ∷ []) need
@@ -146,3 +146,8 @@ same-query n drawn need h = go (allowed n) h
         → (let m = orElse t 0 1 in _≡_ {A = Answer} (record { number = m; drawn = settled m drawn 0 }) (record { number = m; drawn = settled m need 0 }))
     go true e = rw (e refl)
     go false e = refl
+
+-- both inputs have their length
+pub both-true : (a b : Bool) → both a b ≡ true → (a ≡ true) × (b ≡ true)
+both-true true b h = (refl, h)
+both-true false b h = let z : _≡_ {A = ℕ} 0 1 = cc in absurd (omega arith)

@@ -8,7 +8,7 @@ use Rattle.words.specs.Word.{plus, minus}
 use Rattle.rules.specs.declared.Answer.{Answer}
 use Rattle.rules.specs.declared.Opened.{Opened}
 use Rattle.rules.specs.Supply.{Draw, split, opened, openedSum}
-use Rattle.rules.specs.Numbers.{allowed, Test, test, first, settled}
+use Rattle.rules.specs.Numbers.{both, allowed, Test, test, first, settled}
 use Rattle.rules.specs.Goubin.{b2aRecord, a2bRecord}
 use Rattle.rules.specs.Shares.{refresh, expand, and, add}
 use Rattle.rules.specs.Convert.{toBool, toArith}
@@ -51,7 +51,7 @@ oneCall n m x rule came = call (test 1 (allowed n) ∷ test 2 (eqb (length x) n)
 
 -- two inputs of n shares, n shares out
 abbrev pub twoCall : ℕ → List ℕ → List ℕ → Draw (List ℕ) → List ℕ → List ℕ → Answer × List ℕ
-twoCall n x y rule came = call (test 1 (allowed n) ∷ test 2 (eqb (length x) n) ∷ test 2 (eqb (length y) n) ∷ test 3 (eqb (length came) n) ∷ []) rule came
+twoCall n x y rule came = call (test 1 (allowed n) ∷ test 2 (both (eqb (length x) n) (eqb (length y) n)) ∷ test 3 (eqb (length came) n) ∷ []) rule came
 
 abbrev pub refreshCall : ℕ → List ℕ → List ℕ → List ℕ → Answer × List ℕ
 refreshCall n x = oneCall n n x (refresh x)

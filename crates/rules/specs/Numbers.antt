@@ -12,6 +12,10 @@ abbrev pub either : Bool → Bool → Bool
 either true b = true
 either false b = b
 
+abbrev pub both : Bool → Bool → Bool
+both true b = b
+both false b = false
+
 -- the share counts that calls take: 1, 2, 4 and 8
 unfoldable pub allowed : ℕ → Bool
 allowed n = either (eqb n 1) (either (eqb n 2) (either (eqb n 4) (eqb n largest)))

@@ -85,13 +85,13 @@ pub fn open_xor(x: &[u32]) -> u32
     r
 }
 
-// One draw of the refresh: s goes into shares i and j.
-fn mix_at(i: usize, j: usize, s: u32, z: &mut [u32])
+// One draw of the refresh: the word goes into shares i and j.
+fn mix_at(i: usize, j: usize, word: u32, z: &mut [u32])
     requires { ⌜ (i < length (now z)) × (j < length (now z)) ⌝ }
-    ensures { λ _. ⌜ now (z .exit) ≡ mix i j s (now (z .entry)) ⌝ }
+    ensures { λ _. ⌜ now (z .exit) ≡ mix i j word (now (z .entry)) ⌝ }
 {
-    z[i] = z[i] ^ s;
-    z[j] = z[j] ^ s;
+    z[i] = z[i] ^ word;
+    z[j] = z[j] ^ word;
 }
 
 // Refresh in place, from the word at `at` on; the place after.
@@ -272,15 +272,17 @@ pub fn to_bool(a: &[u32], x: &mut [u32], words: &[u32], at: usize) -> usize
         return at;
     }
     let h = n / 2;
+    let left = &a[0..h];
+    let right = &a[h..n];
     let mut b0 = [0u32; LARGEST];
     let mut l0 = [0u32; LARGEST];
     let mut r0 = [0u32; LARGEST];
     let b = &mut b0[0..h];
     let l = &mut l0[0..n];
     let r = &mut r0[0..n];
-    let p = to_bool(&a[0..h], b, words, at);
+    let p = to_bool(left, b, words, at);
     let q = expand_at(b, l, words, p);
-    let s = to_bool(&a[h..n], b, words, q);
+    let s = to_bool(right, b, words, q);
     let t = expand_at(b, r, words, s);
     add_at(l, r, x, words, t)
 }

@@ -1,34 +1,37 @@
 -- refused, with what that leaves; or the rule
-use mathlib.Core.Path.{sym, _∙_}
+use Prim.Native.Nat.{_+_, _*_}
+use mathlib.Core.Path.{_≡_, refl, sym, ap, _∙_}
+use mathlib.Core.Bool.{true}
 use native.Mathlib.Nat.{zero-add}
 use native.Mathlib.Omega.{arith}
 use borrow.Author.Needs.{needs}
 use borrow.Author.Tests.{eqb-true}
-use lib.ListN.{length}
-use mathlib.Core.Bool.{true}
 use lib.Dec.{eqb}
-use Rattle.rules.specs.Numbers.{first}
-use Rattle.rules.specs.Shares.{add}
-use Rattle.rules.specs.Convert.{toBool}
-use Rattle.rules.proofs.Calls.{refused, done, passed, toBool-draws}
+use lib.ListN.{length}
+use Rattle.rules.specs.Supply.{split}
+use Rattle.rules.specs.Numbers.{both, first}
+use Rattle.rules.specs.Shares.{refresh, expand, and, add}
+use Rattle.rules.specs.Convert.{toBool, toArith}
+use Rattle.rules.proofs.Allowed.{within}
+use Rattle.rules.proofs.Calls.{refused, done, passed, both-true, split-draws, refresh-draws, expand-draws, and-draws, add-draws, toBool-draws, toArith-draws}
 use Rattle.flamivorse.proofs.flamivorse_a2b.Statement.{statement}
 use Rattle.flamivorse.proofs.flamivorse_a2b.Tie as tie
 
 returns : tie.Need-returns
 unfolding first
-returns c = let a = c .before .before .before .before .before .before .args in refused (a .n) (eqb (length (a .a .now)) (a .n)) true (eqb (length (a .x .now)) (a .n)) _ (toBool (add 32) (a .a .now)) _ (a .words .now) _ (c .before .first-number .ensures) (λ ok x y z. toBool-draws (a .n) (a .words .now) 32 (omega arith) (a .a .now) x ok (λ i. omega (arith, c .before .before .before .before .before .shared-slice-known .given i)) ∙ c .before .before .a2b-draws .ensures ok) (c .if1 .taken)
+returns c = let a = c .before .before .before .before .before .before .before .args in refused (a .n) (eqb (length (a .a .now)) (a .n)) (eqb (length (a .x .now)) (a .n)) true _ (toBool (add 32) (a .a .now)) _ (a .words .now) _ _ (c .before .before .first-number .ensures) (λ ok x y z. toBool-draws (a .n) (a .words .now) 32 (omega arith) (a .a .now) x ok (λ i. omega (arith, c .before .before .before .before .before .before .shared-slice-known .given i)) ∙ c .before .before .before .a2b-draws .ensures ok) (c .before .if1 .taken) (c .refusal .ensures)
 
 to-bool-requires : tie.Need-to-bool-requires
 to-bool-requires c κs =
     let a = c .before .before .before .before .before .before .before .args in
-    let p = passed (a .n) (eqb (length (a .a .now)) (a .n)) true (eqb (length (a .x .now)) (a .n)) (c .before .before .before .a2b-draws .result) (length (a .words .now)) _ (c .before .before .first-number .ensures) (c .before .if1 .left) in
+    let p = passed (a .n) (eqb (length (a .a .now)) (a .n)) (eqb (length (a .x .now)) (a .n)) true (c .before .before .before .a2b-draws .result) (length (a .words .now)) _ (c .before .before .first-number .ensures) (c .before .if1 .left) in
     let size = eqb-true (length (a .a .now)) (a .n) (p .input) in
     let out = eqb-true (length (a .x .now)) (a .n) (p .output) in
     (rw size (p .count), out ∙ sym size, rw (size, zero-add) (rw (c .before .before .before .a2b-draws .ensures (p .count)) (p .enough)))
 
 returns-2 : tie.Need-returns-2
 unfolding first
-returns-2 c = let a = c .before .before .before .before .before .before .before .before .before .before .args in done (a .n) (eqb (length (a .a .now)) (a .n)) true (eqb (length (a .x .now)) (a .n)) _ (toBool (add 32) (a .a .now)) _ (a .words .now) _ (c .before .before .before .before .before .first-number .ensures) (λ ok x y z. toBool-draws (a .n) (a .words .now) 32 (omega arith) (a .a .now) x ok (λ i. omega (arith, c .before .before .before .before .before .before .before .before .before .shared-slice-known .given i)) ∙ c .before .before .before .before .before .before .a2b-draws .ensures ok) (c .before .before .before .before .if1 .left) _ _ (c .before .before .to-bool .ensures .0)
+returns-2 c = let a = c .before .before .before .before .before .before .before .before .before .before .before .args in done (a .n) (eqb (length (a .a .now)) (a .n)) (eqb (length (a .x .now)) (a .n)) true _ (toBool (add 32) (a .a .now)) _ (a .words .now) _ _ (c .before .before .before .before .before .before .first-number .ensures) (λ ok x y z. toBool-draws (a .n) (a .words .now) 32 (omega arith) (a .a .now) x ok (λ i. omega (arith, c .before .before .before .before .before .before .before .before .before .before .shared-slice-known .given i)) ∙ c .before .before .before .before .before .before .before .a2b-draws .ensures ok) (c .before .before .before .before .before .if1 .left) _ _ (c .before .before .before .to-bool .ensures .0) (c .done .ensures)
 
 pub flamivorse-a2b-spec : {M : Type 1} → statement M
-flamivorse-a2b-spec = tie.close (tie.spec (λ c κs. search needs) (λ c κs. search needs) returns to-bool-requires (λ c. search needs) returns-2)
+flamivorse-a2b-spec = tie.close (tie.spec (λ c κs. search needs) (λ c κs. search needs) (λ c κs. search needs) returns to-bool-requires (λ c κs. search needs) (λ c. search needs) returns-2)

@@ -57,40 +57,41 @@ pub +to-bool-spec : {M : Type 1} → statement M
     (rw (c .before .before .copy .ensures) (toBool-one (add 32) a _ _ one), omega (arith, draws-one (addDraws 32) (length a) one)))
     (λ c. search needs)
     (λ c. search needs)
-    (λ c.
-    let s = c .before .before .before .before in
-    let a = s .args .a .now in
-    let h = halves (addDraws 32) (length a) (s .pre .1 .0) (c .if1 .left) in
-    omega (arith, h .room))
     (λ c. search needs)
     (λ c. search needs)
-    (λ c.
-    let s = c .before .before .before .before .before in
-    let a = s .args .a .now in
-    let h = halves (addDraws 32) (length a) (s .pre .1 .0) (c .before .if1 .left) in
-    h .room)
+    (λ c. search needs)
+    (λ c. search needs)
+    (λ c. search needs)
     (λ c. search needs)
     (λ c. search needs)
     (λ c.
     let s = c .before .before .before .before .before .before in
-    let a = s .args .a .now in
-    let h = halves (addDraws 32) (length a) (s .pre .1 .0) (c .before .before .if1 .left) in
+    let h = halves (addDraws 32) (length (s .args .a .now)) (s .pre .1 .0) (c .before .before .if1 .left) in
+    omega (arith, h .room))
+    (λ c. search needs)
+    (λ c. search needs)
+    (λ c.
+    let s = c .before .before .before .before .before .before .before in
+    let h = halves (addDraws 32) (length (s .args .a .now)) (s .pre .1 .0) (c .before .before .before .if1 .left) in
     h .room)
     (λ c. search needs)
     (λ c. search needs)
-    (λ c. search needs)
+    (λ c.
+    let s = c .before .before .before .before .before .before .before .before in
+    let h = halves (addDraws 32) (length (s .args .a .now)) (s .pre .1 .0) (c .before .before .before .before .if1 .left) in
+    h .room)
     (λ c κs.
-    let s = c .before .before .before .before .before .before .before .before .before in
+    let s = c .before .before .before .before .before .before .before .before .before .before in
     let a = s .args .a .now in
-    let h = halves (addDraws 32) (length a) (s .pre .1 .0) (c .before .before .before .before .before .if1 .left) in
+    let h = halves (addDraws 32) (length a) (s .pre .1 .0) (c .before .before .before .before .before .before .if1 .left) in
     let front = front-length (length a / 2) a (half-le (length a)) in
     let back = back-length (length a / 2) a (half-le (length a)) (h .even) in
     let half-room : length a / 2 ≤ 8 = omega (arith, h .room) in
     (omega (arith, s .pre .0, front, h .more), (rw front (h .half), lent-length 8 (length a / 2) half-room ∙ sym front, rw front (omega (arith, h .draws, s .pre .1 .2)))))
     (λ c κs.
-    let s = c .before .before .before .before .before .before .before .before .before .before .before .before .before .before in
+    let s = c .before .before .before .before .before .before .before .before .before .before .before .before .before .before .before in
     let a = s .args .a .now in
-    let h = halves (addDraws 32) (length a) (s .pre .1 .0) (c .before .before .before .before .before .before .before .before .before .before .if1 .left) in
+    let h = halves (addDraws 32) (length a) (s .pre .1 .0) (c .before .before .before .before .before .before .before .before .before .before .before .if1 .left) in
     let front = front-length (length a / 2) a (half-le (length a)) in
     let back = back-length (length a / 2) a (half-le (length a)) (h .even) in
     let half-room : length a / 2 ≤ 8 = omega (arith, h .room) in
@@ -98,10 +99,6 @@ pub +to-bool-spec : {M : Type 1} → statement M
     let lu = u .kept .1 .0 ∙ lent-length 8 (length a / 2) half-room in
     let pu = u .ensures .1 ∙ ap (λ m. s .args .at + toBoolDraws (addDraws 32) m) front in
     (rw lu half-room, lent-length 8 (length a) (h .room) ∙ h .even ∙ ap (λ m. m * 2) (sym lu), rw lu (omega (arith, h .draws, h .even, s .pre .1 .2, pu))))
-    (λ c. search needs)
-    (λ c. search needs)
-    (λ c. search needs)
-    (λ c. search needs)
     (λ c κs.
     let s = c .before .before .before .before .before .before .before .before .before .before .before .before .before .before .before .before .before .before .before in
     let a = s .args .a .now in
@@ -109,10 +106,10 @@ pub +to-bool-spec : {M : Type 1} → statement M
     let front = front-length (length a / 2) a (half-le (length a)) in
     let back = back-length (length a / 2) a (half-le (length a)) (h .even) in
     let half-room : length a / 2 ≤ 8 = omega (arith, h .room) in
-    let u = c .before .before .before .before .before .before .before .before .before .to-bool in
+    let u = c .before .before .before .before .before .before .before .before .to-bool in
     let lu = u .kept .1 .0 ∙ lent-length 8 (length a / 2) half-room in
     let pu = u .ensures .1 ∙ ap (λ m. s .args .at + toBoolDraws (addDraws 32) m) front in
-    let x = c .before .before .before .before .expand-at in
+    let x = c .before .before .before .expand-at in
     let lx = x .kept .1 .0 ∙ lent-length 8 (length a) (h .room) in
     let px = expand-place _ _ _ _ _ (x .ensures) ∙ ap (λ m. u .result + m) lu in
     (omega (arith, s .pre .0, back, h .more), (rw back (h .half), lu ∙ sym back, rw back (omega (arith, h .draws, h .even, s .pre .1 .2, pu, px)))))
@@ -123,10 +120,10 @@ pub +to-bool-spec : {M : Type 1} → statement M
     let front = front-length (length a / 2) a (half-le (length a)) in
     let back = back-length (length a / 2) a (half-le (length a)) (h .even) in
     let half-room : length a / 2 ≤ 8 = omega (arith, h .room) in
-    let u = c .before .before .before .before .before .before .before .before .before .before .before .before .before .before .to-bool in
+    let u = c .before .before .before .before .before .before .before .before .before .before .before .before .before .to-bool in
     let lu = u .kept .1 .0 ∙ lent-length 8 (length a / 2) half-room in
     let pu = u .ensures .1 ∙ ap (λ m. s .args .at + toBoolDraws (addDraws 32) m) front in
-    let x = c .before .before .before .before .before .before .before .before .before .expand-at in
+    let x = c .before .before .before .before .before .before .before .before .expand-at in
     let lx = x .kept .1 .0 ∙ lent-length 8 (length a) (h .room) in
     let px = expand-place _ _ _ _ _ (x .ensures) ∙ ap (λ m. u .result + m) lu in
     let v = c .before .before .before .before .to-bool2 in
@@ -140,10 +137,10 @@ pub +to-bool-spec : {M : Type 1} → statement M
     let front = front-length (length a / 2) a (half-le (length a)) in
     let back = back-length (length a / 2) a (half-le (length a)) (h .even) in
     let half-room : length a / 2 ≤ 8 = omega (arith, h .room) in
-    let u = c .before .before .before .before .before .before .before .before .before .before .before .before .before .before .before .before .before .before .before .before .before .to-bool in
+    let u = c .before .before .before .before .before .before .before .before .before .before .before .before .before .before .before .before .before .before .before .before .to-bool in
     let lu = u .kept .1 .0 ∙ lent-length 8 (length a / 2) half-room in
     let pu = u .ensures .1 ∙ ap (λ m. s .args .at + toBoolDraws (addDraws 32) m) front in
-    let x = c .before .before .before .before .before .before .before .before .before .before .before .before .before .before .before .before .expand-at in
+    let x = c .before .before .before .before .before .before .before .before .before .before .before .before .before .before .before .expand-at in
     let lx = x .kept .1 .0 ∙ lent-length 8 (length a) (h .room) in
     let px = expand-place _ _ _ _ _ (x .ensures) ∙ ap (λ m. u .result + m) lu in
     let v = c .before .before .before .before .before .before .before .before .before .before .before .to-bool2 in
@@ -161,10 +158,10 @@ pub +to-bool-spec : {M : Type 1} → statement M
     let front = front-length (length a / 2) a (half-le (length a)) in
     let back = back-length (length a / 2) a (half-le (length a)) (h .even) in
     let half-room : length a / 2 ≤ 8 = omega (arith, h .room) in
-    let u = c .before .before .before .before .before .before .before .before .before .before .before .before .before .before .before .before .before .before .before .before .before .before .before .before .before .before .to-bool in
+    let u = c .before .before .before .before .before .before .before .before .before .before .before .before .before .before .before .before .before .before .before .before .before .before .before .before .before .to-bool in
     let lu = u .kept .1 .0 ∙ lent-length 8 (length a / 2) half-room in
     let pu = u .ensures .1 ∙ ap (λ m. s .args .at + toBoolDraws (addDraws 32) m) front in
-    let x = c .before .before .before .before .before .before .before .before .before .before .before .before .before .before .before .before .before .before .before .before .before .expand-at in
+    let x = c .before .before .before .before .before .before .before .before .before .before .before .before .before .before .before .before .before .before .before .before .expand-at in
     let lx = x .kept .1 .0 ∙ lent-length 8 (length a) (h .room) in
     let px = expand-place _ _ _ _ _ (x .ensures) ∙ ap (λ m. u .result + m) lu in
     let v = c .before .before .before .before .before .before .before .before .before .before .before .before .before .before .before .before .to-bool2 in
