@@ -26,3 +26,28 @@ toBoolDraws d n = toBoolDrawsIn d n n
 -- n−1 words, W(n), one addition and one refresh
 abbrev pub toArithDraws : (ℕ → ℕ) → (ℕ → ℕ) → ℕ → ℕ
 toArithDraws d e n = n - 1 + toBoolDraws d n + d n + e n
+
+-- ---- section 6: in ANDs, of the function of a quarter, of m rounds from round t on, of a compression
+unfoldable pub quarterAnds : ℕ → ℕ
+quarterAnds zero = 1
+quarterAnds (suc zero) = 0
+quarterAnds (suc (suc zero)) = 1
+quarterAnds (suc (suc (suc q))) = 0
+
+-- a is how many ANDs one addition makes
+unfoldable pub roundsAnds : ℕ → ℕ → ℕ → ℕ
+roundsAnds a zero t = 0
+roundsAnds a (suc m) t = quarterAnds (t / 20) + 4 * a + roundsAnds a m (t + 1)
+
+unfoldable pub compressAnds : ℕ → ℕ
+compressAnds a = roundsAnds a 80 0 + 5 * a
+
+abbrev pub compressDraws : ℕ → ℕ → ℕ
+compressDraws k n = compressAnds k * andDraws n
+
+-- how many compressions HMAC makes of a message of l bytes
+abbrev pub compressions : ℕ → ℕ
+compressions l = (l + 8) / 64 + 4
+
+abbrev pub hmacDraws : ℕ → ℕ → ℕ → ℕ
+hmacDraws k n l = compressions l * compressDraws k n

@@ -4,6 +4,9 @@ pub mod Goubin
 pub mod Independent
 pub mod Shares
 pub mod Convert
+pub mod Standard
+pub mod Sha1
+pub mod Hmac
 pub mod Counts
 pub mod Calls
 pub mod Table

@@ -13,3 +13,17 @@ pub struct Opened {
     pub number: u32,
     pub word: u32,
 }
+
+// The masked chain value of SHA-1: one record of 40 words, of which 5n are used.
+#[repr(C)]
+pub struct Chain {
+    pub shares: [u32; 40],
+}
+
+// What a compression hands back: the number, how many words it drew, and the new chain.
+#[repr(C)]
+pub struct Compressed {
+    pub number: u32,
+    pub drawn: usize,
+    pub chain: Chain,
+}
