@@ -1,8 +1,5 @@
 // The two-share conversions of Goubin at 32 bits. The steps stand once: working and recording forms take them from the same functions.
 ghost use mathlib.Core.Path.{_≡_};
-ghost use Prim.Native.Nat.{_+_, _≤_};
-ghost use lib.ListN.{length};
-ghost use lib.Seq.{sets};
 ghost use Rattle.words.specs.Word.{minus};
 ghost use Rattle.rules.specs.Goubin.{b2aRecord, a2bStart, a2bRound};
 ghost use Rattle.rules.specs.Calls.{b2aTwo, a2bTwo, b2aRecordCall, a2bRecordCall};
@@ -45,18 +42,6 @@ pub fn b2a(x1: u32, r: u32, g: u32) -> u32
     steps[6]
 }
 
-// Steps, stored into a record's entries from place `at` on.
-fn put(steps: &[u32], entries: &mut [u32], at: usize)
-    requires { ⌜ at + length (now steps) ≤ length (now entries) ⌝ }
-    ensures { λ _. ⌜ now (entries .exit) ≡ sets (now (entries .entry)) at (now (steps .entry)) ⌝ }
-{
-    let mut i = 0;
-    while i < steps.len() {
-        entries[at + i] = steps[i];
-        i += 1;
-    }
-}
-
 // The steps, written down: 0, or 3 where the record has not exactly 7 entries.
 pub fn b2a_record(x1: u32, r: u32, g: u32, entries: &mut [u32]) -> u32
     ensures { λ number. ⌜ b2aRecordCall 32 x1 r g (now (entries .entry)) ≡ (number, now (entries .exit)) ⌝ }
@@ -65,7 +50,7 @@ pub fn b2a_record(x1: u32, r: u32, g: u32, entries: &mut [u32]) -> u32
         return WRONG_LENGTH;
     }
     let steps = b2a_steps(x1, r, g);
-    put(&steps, entries, 0);
+    shares::put(&steps, entries, 0);
     DONE
 }
 
@@ -120,12 +105,12 @@ pub fn a2b_record(a: u32, r: u32, g: u32, entries: &mut [u32]) -> u32
         return WRONG_LENGTH;
     }
     let start = a2b_start(a, r, g);
-    put(&start, entries, 0);
+    shares::put(&start, entries, 0);
     let mut t = start[0];
     let mut i: usize = 0;
     while i < TURNS {
         let turn = a2b_round(a, r, start[8], t, g);
-        put(&turn, entries, 9 + 5 * i);
+        shares::put(&turn, entries, 9 + 5 * i);
         t = turn[4];
         i += 1;
     }

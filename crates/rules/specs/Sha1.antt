@@ -34,15 +34,17 @@ rotl k r x = bitXor (shift k r x) (x / 2 ^ (k - r))
 abbrev pub rotated : ℕ → ℕ → List ℕ → List ℕ
 rotated k r x = map (rotl k r) x
 
--- Ch = d ⊕ (b ∧ (c ⊕ d)), Parity, Maj = d ⊕ ((b ⊕ d) ∧ (c ⊕ d)), Parity: the function f of a quarter; Parity draws nothing
+-- Ch = d ⊕ (b ∧ (c ⊕ d)), Parity, Maj = d ⊕ ((b ⊕ d) ∧ (c ⊕ d)), Parity: the function f of a quarter, one AND each; Parity draws nothing.
+-- `blended` is d ⊕ (u ∧ v)
+unfoldable pub blended : List ℕ → List ℕ → List ℕ → Draw (List ℕ)
+blended u v d ws at =
+    let t = and u v ws at in
+    (each bitXor d (t .0), t .1)
+
 unfoldable pub chosen : ℕ → List ℕ → List ℕ → List ℕ → Draw (List ℕ)
-chosen zero b c d ws at =
-    let t = and b (each bitXor c d) ws at in
-    (each bitXor d (t .0), t .1)
+chosen zero b c d ws at = blended b (each bitXor c d) d ws at
 chosen (suc zero) b c d ws at = (each bitXor (each bitXor b c) d, at)
-chosen (suc (suc zero)) b c d ws at =
-    let t = and (each bitXor b d) (each bitXor c d) ws at in
-    (each bitXor d (t .0), t .1)
+chosen (suc (suc zero)) b c d ws at = blended (each bitXor b d) (each bitXor c d) d ws at
 chosen (suc (suc (suc q))) b c d ws at = (each bitXor (each bitXor b c) d, at)
 
 -- t + f, + e, + K, + W, in this order

@@ -5,6 +5,7 @@ ghost use mathlib.Core.List.{[], _∷_, _++_, map};
 ghost use Prim.Native.Nat.{_+_, _-_, _*_, _≤_, _<_};
 ghost use lib.Bits.{bitXor, bitAnd};
 ghost use lib.ListN.{length, getD};
+ghost use lib.Seq.{sets};
 ghost use Rattle.words.specs.Word.{minus};
 ghost use Rattle.rules.specs.Supply.{opened, openedSum, next, split};
 ghost use Rattle.rules.specs.Numbers.{largest, allowed};
@@ -32,6 +33,18 @@ pub fn copy(x: &[u32], y: &mut [u32])
     let mut i = 0;
     while i < x.len() {
         y[i] = x[i];
+        i += 1;
+    }
+}
+
+// x is stored into z from place `at` on.
+pub fn put(x: &[u32], z: &mut [u32], at: usize)
+    requires { ⌜ at + length (now x) ≤ length (now z) ⌝ }
+    ensures { λ _. ⌜ now (z .exit) ≡ sets (now (z .entry)) at (now (x .entry)) ⌝ }
+{
+    let mut i = 0;
+    while i < x.len() {
+        z[at + i] = x[i];
         i += 1;
     }
 }

@@ -1,4 +1,4 @@
--- the steps that are left, stored from here on, give what all of them give from the start
+-- what is left to be stored, stored from here on, gives what all of it gives from the start
 use Prim.Native.Nat.{_+_, _-_, _≤_}
 use mathlib.Core.Path.{_≡_, refl}
 use native.Mathlib.Nat.{add-zero}
@@ -6,15 +6,15 @@ use borrow.Author.Needs.{needs}
 use lib.ListN.{length, drop}
 use lib.Seq.{sets}
 use Rattle.words.proofs.Stores.{sets-next, sets-end}
-use Rattle.goubin.proofs.put.Statement.{statement}
-use Rattle.goubin.proofs.put.Tie as tie
+use Rattle.shares.proofs.put.Statement.{statement}
+use Rattle.shares.proofs.put.Tie as tie
 
 abbrev Inv-loop : tie.InvT-loop
-Inv-loop steps entries₀ at i₀ entries i =
-    (i ≤ length steps) × (length entries ≡ length entries₀) × (sets entries (at + i) (drop i steps) ≡ sets entries₀ at steps)
+Inv-loop x z₀ at i₀ z i =
+    (i ≤ length x) × (length z ≡ length z₀) × (sets z (at + i) (drop i x) ≡ sets z₀ at x)
 
 abbrev μ-loop : tie.MeasureT-loop
-μ-loop steps entries₀ at i₀ entries i = length steps - i
+μ-loop x z₀ at i₀ z i = length x - i
 
 loop-holds : tie.Need-loop-holds Inv-loop μ-loop
 loop-holds c = (search needs, refl, rw (add-zero (c .args .at)))
@@ -24,7 +24,7 @@ loop-again c =
     let l = c .before .before .loop in (
       search needs,
       search needs,
-      sets-next (l .entries) _ _ _ (l .i) (c .before .loop-test .taken) (l .inv .2),
+      sets-next (l .z) _ _ _ (l .i) (c .before .loop-test .taken) (l .inv .2),
     )
 
 returns : tie.Need-returns Inv-loop μ-loop

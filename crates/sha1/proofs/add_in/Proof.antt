@@ -1,0 +1,27 @@
+use borrow.Author.Needs.{needs}
+use native.Mathlib.Omega.{arith}
+use Prim.Native.Nat.{ℕ, zero, suc, _+_, _-_, _*_, _/_, _≤_, _<_}
+use mathlib.Core.Path.{_≡_, refl, sym, ap, _∙_}
+use mathlib.Core.List.{List, [], _∷_, _++_}
+use lib.ListN.{length, getD, set, take, drop, length-set}
+use Rattle.words.proofs.Stores.{lent-length}
+use Rattle.rules.specs.Counts.{andDraws}
+use Rattle.rules.proofs.Loops.{add-place}
+use Rattle.sha1.proofs.add_in.Statement.{statement}
+use Rattle.sha1.proofs.add_in.Tie as tie
+
+returns : tie.Need-returns
+returns c = let s = c .before .before .before .before .before .before .before .before .before .before .before .before .before .before .before in let z = c .before .before .before .before .before .before .before .before .add-at in (z .ensures ∙ ap (λ l. (l, z .result)) (sym (c .before .before .before .copy .ensures)), add-place 32 _ _ _ _ _ _ (omega arith) (s .pre .2 ∙ sym (s .pre .1)) (z .ensures) ∙ ap (λ m. s .args .at + 32 * andDraws m) (s .pre .1))
+
+pub add-in-spec : {M : Type 1} → statement M
+add-in-spec =
+    tie.close
+    (tie.spec
+    (λ c. search needs) -- sub-z
+    (λ c. search needs) -- part-z0-start
+    (λ c. search needs) -- part-z0-end
+    (λ c κs. let s = c .before .before .before .before .before .before in (s .pre .2 ∙ sym (s .pre .1), lent-length 8 (s .args .n) (s .pre .0) ∙ sym (s .pre .1), rw (s .pre .1) (s .pre .0), rw (s .pre .1) (s .pre .3)))
+    (λ c κs. search needs) -- copy-requires
+    (λ c. search needs) -- same-length
+    returns
+    )

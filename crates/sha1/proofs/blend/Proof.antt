@@ -1,0 +1,28 @@
+use borrow.Author.Needs.{needs}
+use native.Mathlib.Omega.{arith}
+use Prim.Native.Nat.{ℕ, zero, suc, _+_, _-_, _*_, _/_, _≤_, _<_}
+use mathlib.Core.Path.{_≡_, refl, sym, ap, _∙_}
+use mathlib.Core.List.{List, [], _∷_, _++_}
+use lib.ListN.{length, getD, set, take, drop, length-set}
+use Rattle.words.proofs.Stores.{lent-length}
+use Rattle.rules.specs.Counts.{andDraws}
+use Rattle.rules.proofs.Loops.{and-place}
+use Rattle.sha1.proofs.Parts.{blended-made}
+use Rattle.sha1.proofs.blend.Statement.{statement}
+use Rattle.sha1.proofs.blend.Tie as tie
+
+returns : tie.Need-returns
+returns c = let s = c .before .before .before .before .before .before .before .before .before .before .before .before .before .before .before .before in let y = c .before .before .before .before .before .before .before .before .and-at in (blended-made _ _ _ _ _ _ _ _ (y .ensures) (c .before .before .before .xor-each .ensures), and-place _ _ _ _ _ _ (s .pre .2 ∙ sym (s .pre .1)) (y .ensures) ∙ ap (λ m. s .args .at + andDraws m) (s .pre .1))
+
+pub blend-spec : {M : Type 1} → statement M
+blend-spec =
+    tie.close
+    (tie.spec
+    (λ c. search needs) -- sub-y
+    (λ c. search needs) -- part-y0-start
+    (λ c. search needs) -- part-y0-end
+    (λ c κs. let s = c .before .before .before .before .before .before .before in (s .pre .2 ∙ sym (s .pre .1), lent-length 8 (s .args .n) (s .pre .0) ∙ sym (s .pre .1), rw (s .pre .1) (s .pre .5)))
+    (λ c κs. search needs) -- xor-each-requires
+    (λ c. search needs) -- same-length
+    returns
+    )

@@ -1,0 +1,24 @@
+use borrow.Author.Needs.{needs}
+use native.Mathlib.Omega.{arith}
+use Prim.Native.Nat.{ℕ, zero, suc, _+_, _-_, _*_, _/_, _≤_, _<_}
+use mathlib.Core.Path.{_≡_, refl, sym, ap, _∙_}
+use mathlib.Core.List.{List, [], _∷_, _++_}
+use lib.ListN.{length, getD, set, take, drop, length-set}
+use Rattle.sha1.proofs.parity.Statement.{statement}
+use Rattle.sha1.proofs.parity.Tie as tie
+
+returns : tie.Need-returns
+returns c = c .before .before .before .xor-each2 .ensures ∙ rw (c .before .before .before .before .before .before .before .before .xor-each .ensures)
+
+pub parity-spec : {M : Type 1} → statement M
+parity-spec =
+    tie.close
+    (tie.spec
+    (λ c. search needs) -- sub-x
+    (λ c. search needs) -- part-x0-start
+    (λ c. search needs) -- part-x0-end
+    (λ c κs. search needs) -- xor-each-requires
+    (λ c κs. search needs) -- xor-each-requires-2
+    (λ c. search needs) -- same-length
+    returns
+    )

@@ -1,0 +1,23 @@
+use borrow.Author.Needs.{needs}
+use native.Mathlib.Omega.{arith}
+use Prim.Native.Nat.{ℕ, zero, suc, _+_, _-_, _*_, _/_, _≤_, _<_}
+use mathlib.Core.Path.{_≡_, refl, sym, ap, _∙_}
+use mathlib.Core.List.{List, [], _∷_, _++_}
+use lib.ListN.{length, getD, set, take, drop, length-set}
+use Rattle.sha1.proofs.quarter_of.Statement.{statement}
+use Rattle.sha1.proofs.quarter_of.Tie as tie
+
+returns : tie.Need-returns
+returns c = let q = c .before .before .quarter in (rw (c .before .before .before .before .before .before .word .ensures .0, c .before .before .before .before .before .word2 .ensures .0, c .before .before .before .before .word3 .ensures .0) at (q .ensures .0), q .ensures .1)
+
+pub quarter-of-spec : {M : Type 1} → statement M
+quarter-of-spec =
+    tie.close
+    (tie.spec
+    (λ c κs. search needs) -- word-requires
+    (λ c κs. search needs) -- word-requires-2
+    (λ c κs. search needs) -- word-requires-3
+    (λ c κs. search needs) -- quarter-requires
+    (λ c. search needs) -- same-length
+    returns
+    )

@@ -1,0 +1,24 @@
+use borrow.Author.Needs.{needs}
+use native.Mathlib.Omega.{arith}
+use Prim.Native.Nat.{ℕ, zero, suc, _+_, _-_, _*_, _/_, _≤_, _<_}
+use mathlib.Core.Path.{_≡_, refl, sym, ap, _∙_}
+use mathlib.Core.List.{List, [], _∷_, _++_}
+use lib.ListN.{length, getD, set, take, drop, length-set}
+use Rattle.sha1.proofs.Parts.{summed-made}
+use Rattle.sha1.proofs.sum_in.Statement.{statement}
+use Rattle.sha1.proofs.sum_in.Tie as tie
+
+returns : tie.Need-returns
+returns c = (search summed-made, search needs)
+
+pub sum-in-spec : {M : Type 1} → statement M
+sum-in-spec =
+    tie.close
+    (tie.spec
+    (λ c κs. search needs) -- add-in-requires
+    (λ c κs. search needs) -- add-in-requires-2
+    (λ c κs. search needs) -- add-in-requires-3
+    (λ c κs. search needs) -- add-in-requires-4
+    (λ c. search needs) -- same-length
+    returns
+    )

@@ -1,0 +1,33 @@
+use borrow.Author.Needs.{needs}
+use native.Mathlib.Omega.{arith}
+use Prim.Native.Nat.{ℕ, zero, suc, _+_, _-_, _*_, _/_, _≤_, _<_}
+use mathlib.Core.Path.{_≡_, refl, sym, ap, _∙_}
+use mathlib.Core.List.{List, [], _∷_, _++_}
+use lib.ListN.{length, getD, set, take, drop, length-set}
+use Rattle.sha1.proofs.Parts.{temp-made}
+use Rattle.sha1.proofs.temp_at.Statement.{statement}
+use Rattle.sha1.proofs.temp_at.Tie as tie
+
+returns : tie.Need-returns
+returns c = (search temp-made, search needs)
+
+pub temp-at-spec : {M : Type 1} → statement M
+temp-at-spec =
+    tie.close
+    (tie.spec
+    (λ c. search needs) -- sub-f
+    (λ c. search needs) -- part-f0-start
+    (λ c. search needs) -- part-f0-end
+    (λ c. search needs) -- sub-k
+    (λ c. search needs) -- part-k0-start
+    (λ c. search needs) -- part-k0-end
+    (λ c κs. search needs) -- word-requires
+    (λ c κs. search needs) -- constant-requires
+    (λ c κs. search needs) -- public-requires
+    (λ c κs. search needs) -- word-requires-2
+    (λ c κs. search needs) -- rotate-requires
+    (λ c κs. search needs) -- quarter-of-requires
+    (λ c κs. search needs) -- sum-in-requires
+    (λ c. search needs) -- same-length
+    returns
+    )
