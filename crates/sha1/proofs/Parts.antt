@@ -3,17 +3,18 @@ use Prim.Native.Nat.{ℕ, zero, suc, _+_, _-_, _*_, _/_, _≤_, _<_}
 use mathlib.Core.Path.{_≡_, refl, sym, ap, _∙_}
 use mathlib.Core.List.{List, [], _∷_, _++_, map, append-assoc}
 use mathlib.Core.Logic.{_⊎_, inl, inr}
-use native.Mathlib.Nat.{add-mul, suc-mul, mul-le-mul-right}
+use native.Mathlib.Nat.{add-mul, suc-mul, zero-add, mul-le-mul-right}
 use native.Mathlib.Omega.{arith}
 use lib.Bits.{bitXor}
-use lib.ListN.{length, getD, set, take, drop, replicate, length-drop}
-use lib.Seq.{sets, length-sets, length-take-le, take-all}
+use lib.ListN.{length, getD, set, take, drop, replicate, length-drop, List·getD-append}
+use lib.Seq.{sets, length-sets, length-take-le, take-all, take-take, take-nil, ext-getD}
 use Rattle.words.proofs.Stores.{take-sets}
+use Rattle.rules.proofs.Loops.{length-next, next-at}
 use Rattle.rules.specs.Shares.{each, and, add}
 use Rattle.rules.specs.Convert.{Adder}
 use Rattle.rules.specs.Standard.{K}
 use Rattle.rules.specs.Counts.{quarterAnds, roundsAnds}
-use Rattle.rules.specs.Sha1.{word, public, rotated, blended, chosen, summed, temp, moved, round, rounds}
+use Rattle.rules.specs.Sha1.{word, public, rotated, blended, chosen, summed, temp, moved, round, rounds, ago, following, schedule, sums, compress, used, chainOf}
 
 abbrev Run : Type 0
 Run = List ℕ × ℕ
@@ -135,3 +136,73 @@ rounds-none m t p at d e h = omega (arith, rw e at h)
 -- a word below the m-th ends within m words
 pub word-room : (n t m : ℕ) → t < m → t * n + n ≤ m * n
 word-room n t m h = omega (arith, mul-le-mul-right n h, suc-mul t n)
+
+-- ---- the schedule
+-- the word j before the end of the first t words
+pub ago-word : (n t j : ℕ) (u : List ℕ) → 1 ≤ j → j ≤ t → t * n ≤ length u → ago n j (take (t * n) u) ≡ word n (t - j) u
+unfolding ago word
+ago-word n t j u one h room =
+    let size : length (take (t * n) u) ≡ t * n = length-take-le (t * n) u room in
+    let parts : t * n ≡ j * n + (t - j) * n = ap (λ m. m * n) (whole t j h) ∙ add-mul j (t - j) n in
+    let place : t * n - j * n ≡ (t - j) * n = omega arith in
+    let rest : n ≤ j * n = omega (arith, mul-le-mul-right n one) in
+    rw (size, place)
+    (ap (take n) (drop-take ((t - j) * n) (j * n) (t * n) u (omega arith)) ∙ take-take n (j * n) (drop ((t - j) * n) u) rest)
+  where
+    whole : (t j : ℕ) → j ≤ t → t ≡ j + (t - j)
+    whole t j h = omega arith
+
+    drop-take : (a b c : ℕ) (u : List ℕ) → c ≡ a + b → drop a (take c u) ≡ take b (drop a u)
+    drop-take zero b c u e = rw e (ap (λ m. take m u) (zero-add b))
+    drop-take (suc a) b c [] e = ap (drop (suc a)) (take-nil c) ∙ sym (take-nil b)
+    drop-take (suc a) b zero (x ∷ u) e = absurd (omega arith)
+    drop-take (suc a) b (suc c) (x ∷ u) e = drop-take a b c u (omega arith)
+
+pub following-made : (k n t : ℕ) (u a b c d x y z : List ℕ) → 16 ≤ t → t * n ≤ length u → a ≡ word n (t - 3) u → b ≡ word n (t - 8) u → c ≡ word n (t - 14) u → d ≡ word n (t - 16) u
+    → x ≡ each bitXor (each bitXor a b) c → y ≡ each bitXor x d → z ≡ rotated k 1 y → z ≡ following k n (take (t * n) u)
+unfolding following
+following-made k n t u a b c d x y z h room ea eb ec ed ex ey ez =
+    rw (ago-word n t 3 u (omega arith) (omega arith) room, ago-word n t 8 u (omega arith) (omega arith) room, ago-word n t 14 u (omega arith) (omega arith) room, ago-word n t 16 u (omega arith) (omega arith) room,
+      ← ea, ← eb, ← ec, ← ed, ← ex, ← ey) ez
+
+pub schedule-next : (k n m l : ℕ) (W Y e : List ℕ) → m ≡ suc l → Y ≡ W ++ following k n W → schedule k n m W ≡ e → schedule k n l Y ≡ e
+unfolding schedule
+schedule-next k n m l W Y e h g inv = rw g (rw h at inv)
+
+pub schedule-end : (k n m : ℕ) (W u e : List ℕ) → m ≡ 0 → W ≡ u → schedule k n m W ≡ e → u ≡ e
+unfolding schedule
+schedule-end k n m W u e h g inv = sym g ∙ rw h at inv
+
+-- ---- the chain's sums
+module _ (add : Adder) (n : ℕ) (h s ws : List ℕ) where
+  pub sums-one : (i at p : ℕ) (z x y : List ℕ) → add (word n i h) (word n i s) ws at ≡ (x, p) → y ≡ z ++ x → sums add n h s 1 i z ws at ≡ (y, p)
+  unfolding sums
+  sums-one i at p z x y e g = rw (e, g)
+
+  pub sums-next : (m l i at p : ℕ) (z y : List ℕ) (e : Run) → m ≡ suc l → sums add n h s 1 i z ws at ≡ (y, p) → sums add n h s m i z ws at ≡ e → sums add n h s l (i + 1) y ws p ≡ e
+  unfolding sums
+  sums-next m l i at p z y e g one inv = sym (ap (λ (r : Run). sums add n h s l (i + 1) (r .0) ws (r .1)) one) ∙ rw g at inv
+
+  pub sums-end : (m i at : ℕ) (z y : List ℕ) (e : Run) → m ≡ 0 → z ≡ y → sums add n h s m i z ws at ≡ e → e ≡ (y, at)
+  unfolding sums
+  sums-end m i at z y e g f inv = sym (rw (g, f) at inv)
+
+pub compress-made : (k : ℕ) (add : Adder) (n : ℕ) (h block ws u g s z : List ℕ) (at p q : ℕ) → u ≡ schedule k n 64 block → g ≡ h → rounds k add n u 80 0 g ws at ≡ (s, p)
+    → sums add n h s 5 0 [] ws p ≡ (z, q) → compress k add n h block ws at ≡ (z, q)
+unfolding compress
+compress-made k add n h block ws u g s z at p q eu eg er es = rw (← eu, ← eg, er) (rw (← eg) at es)
+
+-- ---- the used words of a chain record
+pub used-length : (n : ℕ) (chain : List ℕ) → length (used n chain) ≡ 5 * n
+unfolding used
+used-length n chain = length-next chain (5 * n) 0
+
+pub used-at : (n : ℕ) (chain : List ℕ) (i : ℕ) → i < 5 * n → getD (used n chain) i 0 ≡ getD chain i 0
+unfolding used
+used-at n chain i h = next-at chain (5 * n) 0 i h ∙ ap (λ m. getD chain m 0) (zero-add i)
+
+-- the front of a longer record
+pub used-front : (n : ℕ) (h rest : List ℕ) → length h ≡ 5 * n → used n (h ++ rest) ≡ h
+used-front n h rest e =
+    ext-getD 0 _ _ (used-length n (h ++ rest) ∙ sym e) (λ i l.
+    used-at n (h ++ rest) i (omega (arith, used-length n (h ++ rest))) ∙ List·getD-append h rest 0 i (omega (arith, used-length n (h ++ rest))))

@@ -292,3 +292,140 @@ fn rounds_at(n: usize, u: &[u32], s: &mut [u32], words: &[u32], at: usize) -> us
     }
     p
 }
+
+// ---- the schedule
+
+// The schedule's word t, from those 3, 8, 14 and 16 before it.
+fn following_at(n: usize, u: &[u32], t: usize, z: &mut [u32])
+    requires { ⌜ (n ≤ largest) × (16 ≤ t) × (t < 80) × (length (now u) ≡ 80 * n) × (length (now z) ≡ n) ⌝ }
+    ensures { λ _. ⌜ now (z .exit) ≡ following 32 n (take (t * n) (now (u .entry))) ⌝ }
+{
+    let mut x0 = [0u32; 8];
+    let mut y0 = [0u32; 8];
+    let x = &mut x0[0..n];
+    let y = &mut y0[0..n];
+    parity(
+        n,
+        word(u, n, t - 3),
+        word(u, n, t - 8),
+        word(u, n, t - 14),
+        x,
+    );
+    shares::xor_each(x, word(u, n, t - 16), y);
+    rotate(1, y, z);
+}
+
+// One word more of the schedule.
+fn schedule_word(n: usize, t: usize, u: &mut [u32])
+    requires { ⌜ (n ≤ largest) × (16 ≤ t) × (t < 80) × (length (now u) ≡ 80 * n) ⌝ }
+    ensures { λ _. ⌜ take ((t + 1) * n) (now (u .exit)) ≡ take (t * n) (now (u .entry)) ++ following 32 n (take (t * n) (now (u .entry))) ⌝ }
+{
+    let mut x0 = [0u32; 8];
+    let x = &mut x0[0..n];
+    following_at(n, u, t, x);
+    shares::put(x, u, t * n);
+}
+
+// The schedule of a block: 80 words.
+fn schedule_at(n: usize, block: &[u32], u: &mut [u32])
+    requires { ⌜ (n ≤ largest) × (length (now block) ≡ 16 * n) × (length (now u) ≡ 80 * n) ⌝ }
+    ensures { λ _. ⌜ now (u .exit) ≡ schedule 32 n 64 (now (block .entry)) ⌝ }
+{
+    shares::put(block, u, 0);
+    let mut t: usize = 16;
+    while t < 80 {
+        schedule_word(n, t, u);
+        t += 1;
+    }
+}
+
+// ---- the compression
+
+// Word i of the chain: the old value and the new one are added.
+fn sum_word(
+    n: usize,
+    i: usize,
+    h: &[u32],
+    s: &[u32],
+    z: &mut [u32],
+    words: &[u32],
+    at: usize,
+) -> usize
+    requires { ⌜ (n ≤ largest) × (i < 5) × (length (now h) ≡ 5 * n) × (length (now s) ≡ 5 * n) × (length (now z) ≡ 5 * n) × (at + 32 * andDraws n ≤ length (now words)) ⌝ }
+    ensures { λ r. ⌜ (sums (add 32) n (now (h .entry)) (now (s .entry)) 1 i (take (i * n) (now (z .entry))) (now (words .entry)) at ≡ (take ((i + 1) * n) (now (z .exit)), r)) × (r ≡ at + 32 * andDraws n) ⌝ }
+{
+    let mut x0 = [0u32; 8];
+    let x = &mut x0[0..n];
+    shares::copy(word(h, n, i), x);
+    let p = add_in(n, x, word(s, n, i), words, at);
+    shares::put(x, z, i * n);
+    p
+}
+
+// The new chain z, from the old one h and the state s after the rounds.
+fn sums_at(n: usize, h: &[u32], s: &[u32], z: &mut [u32], words: &[u32], at: usize) -> usize
+    requires { ⌜ (n ≤ largest) × (length (now h) ≡ 5 * n) × (length (now s) ≡ 5 * n) × (length (now z) ≡ 5 * n) × (at + 160 * andDraws n ≤ length (now words)) ⌝ }
+    ensures { λ r. ⌜ (sums (add 32) n (now (h .entry)) (now (s .entry)) 5 0 [] (now (words .entry)) at ≡ (now (z .exit), r)) × (r ≡ at + 160 * andDraws n) ⌝ }
+{
+    let mut p = at;
+    let mut i: usize = 0;
+    while i < 5 {
+        p = sum_word(n, i, h, s, z, words, p);
+        i += 1;
+    }
+    p
+}
+
+// The compression of a block into the chain h; z is the new chain.
+fn compress_at(n: usize, h: &[u32], block: &[u32], z: &mut [u32], words: &[u32], at: usize) -> usize
+    requires { ⌜ (0 < n) × (n ≤ largest) × (length (now h) ≡ 5 * n) × (length (now block) ≡ 16 * n) × (length (now z) ≡ 5 * n) × (at + compressDraws 32 n ≤ length (now words)) ⌝ }
+    ensures { λ r. ⌜ (compress 32 (add 32) n (now (h .entry)) (now (block .entry)) (now (words .entry)) at ≡ (now (z .exit), r)) × (r ≡ at + compressDraws 32 n) ⌝ }
+{
+    let m = 80 * n;
+    let k = 5 * n;
+    let mut u0 = [0u32; 640];
+    let mut s0 = [0u32; 40];
+    let u = &mut u0[0..m];
+    let s = &mut s0[0..k];
+    schedule_at(n, block, u);
+    shares::copy(h, s);
+    let p = rounds_at(n, u, s, words, at);
+    sums_at(n, h, s, z, words, p)
+}
+
+// A chain, and the place after the words that went into it.
+pub struct Stepped {
+    pub chain: Chain,
+    pub at: usize,
+}
+
+// The used words of a chain.
+fn load(chain: Chain, n: usize, h: &mut [u32])
+    requires { ⌜ (n ≤ largest) × (length (now h) ≡ 5 * n) ⌝ }
+    ensures { λ _. ⌜ now (h .exit) ≡ used n (chain .shares) ⌝ }
+{
+    let mut i = 0;
+    while i < h.len() {
+        let v = chain.shares[i];
+        h[i] = v;
+        i += 1;
+    }
+}
+
+// One compression, of a block of 16n words into a chain, from the word at `at` on.
+pub fn compress(n: usize, chain: Chain, block: &[u32], words: &[u32], at: usize) -> Stepped
+    requires { ⌜ (0 < n) × (n ≤ largest) × (length (now block) ≡ 16 * n) × (at + compressDraws 32 n ≤ length (now words)) ⌝ }
+    ensures { λ r. ⌜ (compress 32 (add 32) n (used n (chain .shares)) (now (block .entry)) (now (words .entry)) at ≡ (used n (r .chain .shares), r .at)) × (r .chain .shares ≡ chainOf n (used n (r .chain .shares))) × (r .at ≡ at + compressDraws 32 n) ⌝ }
+{
+    let m = 5 * n;
+    let mut h0 = [0u32; 40];
+    let mut z0 = [0u32; 40];
+    let h = &mut h0[0..m];
+    load(chain, n, h);
+    let z = &mut z0[0..m];
+    let p = compress_at(n, h, block, z, words, at);
+    Stepped {
+        chain: Chain { shares: z0 },
+        at: p,
+    }
+}
