@@ -3,17 +3,17 @@ use Prim.Native.Nat.{ℕ, zero, suc, _+_, _-_, _*_, _/_, _≤_, _<_}
 use mathlib.Core.Path.{_≡_, refl, sym, ap, _∙_}
 use mathlib.Core.List.{List, [], _∷_, _++_, map, append-assoc}
 use mathlib.Core.Logic.{_⊎_, inl, inr}
-use native.Mathlib.Nat.{add-mul, suc-mul, zero-add, mul-le-mul-right}
+use native.Mathlib.Nat.{add-mul, suc-mul, zero-add, sub-zero, mul-le-mul-right}
 use native.Mathlib.Omega.{arith}
 use lib.Bits.{bitXor}
-use lib.ListN.{length, getD, set, take, drop, replicate, length-drop, List·getD-append}
-use lib.Seq.{sets, length-sets, length-take-le, take-all, take-take, take-nil, ext-getD}
+use lib.ListN.{length, getD, set, take, drop, replicate, length-drop, length-replicate, replicate-append-replicate, List·getD-append}
+use lib.Seq.{sets, length-sets, length-take-le, take-all, take-take, take-nil, drop-at, ext-getD}
 use Rattle.words.proofs.Stores.{take-sets}
 use Rattle.rules.proofs.Loops.{length-next, next-at}
 use Rattle.rules.specs.Shares.{each, and, add}
 use Rattle.rules.specs.Convert.{Adder}
 use Rattle.rules.specs.Standard.{K}
-use Rattle.rules.specs.Counts.{quarterAnds, roundsAnds}
+use Rattle.rules.specs.Counts.{andDraws, quarterAnds, roundsAnds, compressAnds, compressDraws}
 use Rattle.rules.specs.Sha1.{word, public, rotated, blended, chosen, summed, temp, moved, round, rounds, ago, following, schedule, sums, compress, used, chainOf}
 
 abbrev Run : Type 0
@@ -162,8 +162,18 @@ pub following-made : (k n t : ℕ) (u a b c d x y z : List ℕ) → 16 ≤ t →
     → x ≡ each bitXor (each bitXor a b) c → y ≡ each bitXor x d → z ≡ rotated k 1 y → z ≡ following k n (take (t * n) u)
 unfolding following
 following-made k n t u a b c d x y z h room ea eb ec ed ex ey ez =
-    rw (ago-word n t 3 u (omega arith) (omega arith) room, ago-word n t 8 u (omega arith) (omega arith) room, ago-word n t 14 u (omega arith) (omega arith) room, ago-word n t 16 u (omega arith) (omega arith) room,
-      ← ea, ← eb, ← ec, ← ed, ← ex, ← ey) ez
+    rw (
+      ago-word n t 3 u (omega arith) (omega arith) room,
+      ago-word n t 8 u (omega arith) (omega arith) room,
+      ago-word n t 14 u (omega arith) (omega arith) room,
+      ago-word n t 16 u (omega arith) (omega arith) room,
+      ← ea,
+      ← eb,
+      ← ec,
+      ← ed,
+      ← ex,
+      ← ey,
+    ) ez
 
 pub schedule-next : (k n m l : ℕ) (W Y e : List ℕ) → m ≡ suc l → Y ≡ W ++ following k n W → schedule k n m W ≡ e → schedule k n l Y ≡ e
 unfolding schedule
@@ -206,3 +216,20 @@ pub used-front : (n : ℕ) (h rest : List ℕ) → length h ≡ 5 * n → used n
 used-front n h rest e =
     ext-getD 0 _ _ (used-length n (h ++ rest) ∙ sym e) (λ i l.
     used-at n (h ++ rest) i (omega (arith, used-length n (h ++ rest))) ∙ List·getD-append h rest 0 i (omega (arith, used-length n (h ++ rest))))
+
+pub compressDraws-parts : (n : ℕ) → compressDraws 32 n ≡ roundsAnds 32 80 0 * andDraws n + 160 * andDraws n
+unfolding compressAnds
+compressDraws-parts n = add-mul (roundsAnds 32 80 0) 160 (andDraws n)
+
+-- a chain record: the words worked out, and zeros after them
+module _ (n : ℕ) (z : List ℕ) (size : length z ≡ 5 * n) (few : n ≤ 8) where
+  pub record-chain : z ++ drop (5 * n - 0) (replicate 40 0) ≡ chainOf n z
+  unfolding chainOf
+  record-chain =
+      let all : 40 ≡ 5 * n + (40 - 5 * n) = omega arith in
+      rw (sub-zero (5 * n))
+      (ap (λ l. z ++ drop (5 * n) l) (ap (λ m. replicate m 0) all ∙ sym (replicate-append-replicate (5 * n) (40 - 5 * n) 0))
+      ∙ ap (λ l. z ++ l) (drop-at (replicate (5 * n) 0) (replicate (40 - 5 * n) 0) (5 * n) (length-replicate (5 * n) 0)))
+
+  pub record-used : used n (z ++ drop (5 * n - 0) (replicate 40 0)) ≡ z
+  record-used = used-front n z (drop (5 * n - 0) (replicate 40 0)) size

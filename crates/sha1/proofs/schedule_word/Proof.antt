@@ -17,18 +17,18 @@ returns c =
     let f = c .before .before .before .before .before .before .before .before .following-at in
     let size = f .kept .1 .1 .1 .0 ∙ lent-length 8 n (s .pre .0) in
     let room = word-room n t 80 (s .pre .2) in
-    stored (s .args .u .now) _ _ _ (t * n) ((t + 1) * n) (omega (arith, size)) (omega (arith, s .pre .3)) (c .before .before .before .put .ensures) refl ∙ rw (f .ensures)
+    stored (s .args .u .now) (f .last .1 .1 .1 .0) _ _ (t * n) ((t + 1) * n) (omega (arith, size)) (omega (arith, s .pre .3)) (c .before .before .before .put .ensures) refl ∙ rw (f .ensures)
 
 pub schedule-word-spec : {M : Type 1} → statement M
 schedule-word-spec =
     tie.close
     (tie.spec
-    (λ c. search needs) -- sub-x
-    (λ c. search needs) -- part-x0-start
-    (λ c. search needs) -- part-x0-end
-    (λ c κs. search needs) -- following-at-requires
+    (λ c. search needs)  -- sub-x
+    (λ c. search needs)  -- part-x0-start
+    (λ c. search needs)  -- part-x0-end
+    (λ c κs. search needs)  -- following-at-requires
     (λ c. let s = c .before .before .before .before .before .before .before .before .before in omega (arith, word-room (s .args .n) (s .args .t) 80 (s .pre .2), s .pre .0))
     (λ c κs. let s = c .before .before .before .before .before .before .before .before .before in omega (arith, word-room (s .args .n) (s .args .t) 80 (s .pre .2), s .pre .3, c .before .before .before .before .following-at .kept .1 .1 .1 .0 ∙ lent-length 8 (s .args .n) (s .pre .0)))
-    (λ c. search needs) -- same-length
+    (λ c. search needs)  -- same-length
     returns
     )

@@ -20,7 +20,7 @@ returns c =
     let room = word-room n i 5 (s .pre .1) in
     let sum = rw (c .before .before .before .before .before .before .before .before .before .before .before .before .before .copy .ensures, c .before .before .before .before .before .before .before .before .before .before .before .before .before .before .before .word .ensures .0, c .before .before .before .before .before .before .before .before .before .word2 .ensures .0) at (a .ensures .0) in (
       sums-one (add 32) n _ _ _ i _ _ _ _ _ sum
-      (stored (s .args .z .now) _ _ _ (i * n) ((i + 1) * n) (omega (arith, size)) (omega (arith, s .pre .4)) (c .before .before .before .put .ensures) refl),
+          (stored (s .args .z .now) _ _ _ (i * n) ((i + 1) * n) (omega (arith, size)) (omega (arith, s .pre .4)) (c .before .before .before .put .ensures) refl),
       a .ensures .1,
     )
 
@@ -28,15 +28,15 @@ pub sum-word-spec : {M : Type 1} → statement M
 sum-word-spec =
     tie.close
     (tie.spec
-    (λ c. search needs) -- sub-x
-    (λ c. search needs) -- part-x0-start
-    (λ c. search needs) -- part-x0-end
+    (λ c. search needs)  -- sub-x
+    (λ c. search needs)  -- part-x0-start
+    (λ c. search needs)  -- part-x0-end
     (λ c κs. let s = c .before .before .before .before .before in omega (arith, word-room (s .args .n) (s .args .i) 5 (s .pre .1), s .pre .2, s .pre .3))
-    (λ c κs. search needs) -- copy-requires
+    (λ c κs. search needs)  -- copy-requires
     (λ c κs. let s = c .before .before .before .before .before .before .before .before .before .before .before in omega (arith, word-room (s .args .n) (s .args .i) 5 (s .pre .1), s .pre .2, s .pre .3))
-    (λ c κs. search needs) -- add-in-requires
+    (λ c κs. search needs)  -- add-in-requires
     (λ c. let s = c .before .before .before .before .before .before .before .before .before .before .before .before .before .before .before .before .before in omega (arith, word-room (s .args .n) (s .args .i) 5 (s .pre .1), s .pre .0))
     (λ c κs. let s = c .before .before .before .before .before .before .before .before .before .before .before .before .before .before .before .before .before in omega (arith, word-room (s .args .n) (s .args .i) 5 (s .pre .1), s .pre .4, c .before .before .before .before .add-in .kept .1 .0 ∙ c .before .before .before .before .before .before .before .before .before .copy .kept .1 .0 ∙ lent-length 8 (s .args .n) (s .pre .0)))
-    (λ c. search needs) -- same-length
+    (λ c. search needs)  -- same-length
     returns
     )

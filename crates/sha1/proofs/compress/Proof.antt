@@ -1,0 +1,35 @@
+use borrow.Author.Needs.{needs}
+use native.Mathlib.Omega.{arith}
+use Prim.Native.Nat.{ℕ, zero, suc, _+_, _-_, _*_, _/_, _≤_, _<_}
+use mathlib.Core.Path.{_≡_, refl, sym, ap, _∙_}
+use mathlib.Core.List.{List, [], _∷_, _++_}
+use lib.ListN.{length, getD, set, take, drop, length-set}
+use Rattle.words.proofs.Stores.{lent-length}
+use Rattle.sha1.proofs.Parts.{record-chain, record-used}
+use Rattle.sha1.proofs.compress.Statement.{statement}
+use Rattle.sha1.proofs.compress.Tie as tie
+
+returns : tie.Need-returns
+returns c =
+    let s = c .before .before .before .before .before .before .before .before .before .before .before .before in
+    let n = s .args .n in
+    let z = c .before .before .compress-at in
+    let size = z .kept .1 .1 .1 .0 ∙ lent-length 40 (5 * n) (omega (arith, s .pre .1)) in
+    let used-z = record-used n (z .last .1 .1 .1 .0) size (s .pre .1) in
+    (rw (used-z, ← c .before .before .before .before .before .before .before .load .ensures) (z .ensures .0), rw used-z (record-chain n (z .last .1 .1 .1 .0) size (s .pre .1)), z .ensures .1)
+
+pub compress-spec : {M : Type 1} → statement M
+compress-spec =
+    tie.close
+    (tie.spec
+    (λ c. search needs)  -- mul-m
+    (λ c. search needs)  -- sub-h
+    (λ c. search needs)  -- part-h0-start
+    (λ c. search needs)  -- part-h0-end
+    (λ c κs. search needs)  -- load-requires
+    (λ c. search needs)  -- sub-z
+    (λ c. search needs)  -- part-z0-start
+    (λ c. search needs)  -- part-z0-end
+    (λ c κs. search needs)  -- compress-at-requires
+    returns
+    )
