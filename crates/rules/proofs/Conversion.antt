@@ -65,7 +65,7 @@ words-last k [] y h l (suc i) = pow-pos k
 words-last k (a ∷ x) y h l zero = h 0
 words-last k (a ∷ x) y h l (suc i) = words-last k x y (λ j. h (suc j)) l i
 
-words-drop : (k n : ℕ) (a : List ℕ) → Words k a → Words k (drop n a)
+pub words-drop : (k n : ℕ) (a : List ℕ) → Words k a → Words k (drop n a)
 words-drop k n a h i = rw (getD-drop n a i 0) (h (n + i))
 
 -- ---- the depth allowed does not matter, so long as it is enough

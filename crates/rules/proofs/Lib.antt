@@ -9,3 +9,9 @@ pub mod Conversion
 pub mod Allowed
 pub mod Loops
 pub mod Calls
+pub mod Functions
+pub mod Bytes
+pub mod Masked
+pub mod Sizes
+pub mod Opens
+pub mod Tags
