@@ -212,3 +212,7 @@ toArith-made k adder fresh m last at p q r e word x ws A (a ∷ a′ ∷ rest) n
 toArith-made k adder fresh m last at p q r e word x ws A (a ∷ []) negative b s y f g h i n j l o w =
     let size : length A ≡ last = sym (ap (λ (t : Run). length (t .0)) i) ∙ length-next ws m at ∙ sym g in
     rw (← f, i, ← n, j, l, o, set-at A a [] word last size, w)
+
+-- ---- the array of a chain record that is handed over, as the checker knows it
+pub chain-length : (a : List ℕ) → length (map (λ (v : ℕ). v) a) ≡ 40 → length a ≡ 40
+chain-length a e = sym (length-map a (λ (v : ℕ). v)) ∙ e

@@ -5,7 +5,7 @@ use mathlib.Core.List.{List, [], _∷_, _++_, map}
 use lib.Bits.{bitXor}
 use lib.ListN.{length, replicate, take, drop}
 use Rattle.words.specs.Word.{shift}
-use Rattle.rules.specs.Supply.{Draw, next, opened}
+use Rattle.rules.specs.Supply.{Draw, opened}
 use Rattle.rules.specs.Shares.{each, and}
 use Rattle.rules.specs.Convert.{Adder}
 use Rattle.rules.specs.Standard.{K}
@@ -104,7 +104,7 @@ compress k add n h block ws at =
 
 -- The chain record has 40 words, of which 5n are used: those looked at on entry, and a chain with the rest 0
 unfoldable pub used : ℕ → List ℕ → List ℕ
-used n chain = next (5 * n) chain 0 .0
+used n chain = take (5 * n) chain
 
 unfoldable pub chainOf : ℕ → List ℕ → List ℕ
 chainOf n h = h ++ replicate (40 - 5 * n) 0

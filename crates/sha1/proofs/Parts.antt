@@ -6,10 +6,9 @@ use mathlib.Core.Logic.{_⊎_, inl, inr}
 use native.Mathlib.Nat.{add-mul, suc-mul, zero-add, sub-zero, mul-le-mul-right}
 use native.Mathlib.Omega.{arith}
 use lib.Bits.{bitXor}
-use lib.ListN.{length, getD, set, take, drop, replicate, length-drop, length-replicate, replicate-append-replicate, List·getD-append}
-use lib.Seq.{sets, length-sets, length-take-le, take-all, take-take, take-nil, drop-at, ext-getD}
+use lib.ListN.{length, getD, set, take, drop, replicate, length-drop, length-replicate, replicate-append-replicate}
+use lib.Seq.{sets, length-sets, length-take-le, take-all, take-take, take-nil, take-at, drop-at, getD-take}
 use Rattle.words.proofs.Stores.{take-sets}
-use Rattle.rules.proofs.Loops.{length-next, next-at}
 use Rattle.rules.specs.Shares.{each, and, add}
 use Rattle.rules.specs.Convert.{Adder}
 use Rattle.rules.specs.Standard.{K}
@@ -203,19 +202,13 @@ unfolding compress
 compress-made k add n h block ws u g s z at p q eu eg er es = rw (← eu, ← eg, er) (rw (← eg) at es)
 
 -- ---- the used words of a chain record
-pub used-length : (n : ℕ) (chain : List ℕ) → length (used n chain) ≡ 5 * n
+pub used-length : (n : ℕ) (chain : List ℕ) → n ≤ 8 → length chain ≡ 40 → length (used n chain) ≡ 5 * n
 unfolding used
-used-length n chain = length-next chain (5 * n) 0
+used-length n chain h l = length-take-le (5 * n) chain (omega arith)
 
 pub used-at : (n : ℕ) (chain : List ℕ) (i : ℕ) → i < 5 * n → getD (used n chain) i 0 ≡ getD chain i 0
 unfolding used
-used-at n chain i h = next-at chain (5 * n) 0 i h ∙ ap (λ m. getD chain m 0) (zero-add i)
-
--- the front of a longer record
-pub used-front : (n : ℕ) (h rest : List ℕ) → length h ≡ 5 * n → used n (h ++ rest) ≡ h
-used-front n h rest e =
-    ext-getD 0 _ _ (used-length n (h ++ rest) ∙ sym e) (λ i l.
-    used-at n (h ++ rest) i (omega (arith, used-length n (h ++ rest))) ∙ List·getD-append h rest 0 i (omega (arith, used-length n (h ++ rest))))
+used-at n chain i h = getD-take (5 * n) chain i 0 h
 
 pub compressDraws-parts : (n : ℕ) → compressDraws 32 n ≡ roundsAnds 32 80 0 * andDraws n + 160 * andDraws n
 unfolding compressAnds
@@ -232,4 +225,5 @@ module _ (n : ℕ) (z : List ℕ) (size : length z ≡ 5 * n) (few : n ≤ 8) wh
       ∙ ap (λ l. z ++ l) (drop-at (replicate (5 * n) 0) (replicate (40 - 5 * n) 0) (5 * n) (length-replicate (5 * n) 0)))
 
   pub record-used : used n (z ++ drop (5 * n - 0) (replicate 40 0)) ≡ z
-  record-used = used-front n z (drop (5 * n - 0) (replicate 40 0)) size
+  unfolding used
+  record-used = take-at z (drop (5 * n - 0) (replicate 40 0)) (5 * n) size

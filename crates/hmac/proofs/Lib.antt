@@ -1,0 +1,4 @@
+pub mod Padding
+pub mod Blocks
+pub mod Steps
+pub mod Tags

@@ -1,0 +1,13 @@
+use borrow.Author.Needs.{needs}
+use Rattle.hmac.proofs.Tags.{key-case, key-past}
+use Rattle.hmac.proofs.key_byte.Statement.{statement}
+use Rattle.hmac.proofs.key_byte.Tie as tie
+
+pub key-byte-spec : {M : Type 1} → statement M
+key-byte-spec =
+    tie.close
+    (tie.spec
+    (λ c. search needs)
+    (λ c. search key-case)
+    (λ c. search key-past)
+    )

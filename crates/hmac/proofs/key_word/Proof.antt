@@ -1,0 +1,20 @@
+use borrow.Author.Needs.{needs}
+use Rattle.hmac.proofs.Padding.{word-made}
+use Rattle.hmac.proofs.key_word.Statement.{statement}
+use Rattle.hmac.proofs.key_word.Tie as tie
+
+pub key-word-spec : {M : Type 1} → statement M
+key-word-spec =
+    tie.close
+    (tie.spec
+    (λ c. search needs)
+    (λ c κs. search needs)
+    (λ c. search needs)
+    (λ c κs. search needs)
+    (λ c. search needs)
+    (λ c κs. search needs)
+    (λ c. search needs)
+    (λ c κs. search needs)
+    (λ c κs. search needs)
+    (λ c. search word-made)
+    )

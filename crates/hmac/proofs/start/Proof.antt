@@ -1,0 +1,17 @@
+use borrow.Author.Needs.{needs}
+use Rattle.hmac.proofs.Blocks.{start-made}
+use Rattle.hmac.proofs.start.Statement.{statement}
+use Rattle.hmac.proofs.start.Tie as tie
+
+pub start-spec : {M : Type 1} → statement M
+start-spec =
+    tie.close
+    (tie.spec
+    (λ c. search needs)
+    (λ c. search needs)
+    (λ c. search needs)
+    (λ c. search needs)
+    (λ c. search needs)
+    (λ c κs. search needs)
+    (λ c. start-made (c .before .before .before .before .args .n) _ (c .before .before .before .before .pre .1) (c .before .publish .ensures))
+    )
