@@ -2,13 +2,16 @@
 ghost use mathlib.Core.Path.{_≡_};
 ghost use mathlib.Core.Bool.{true};
 ghost use mathlib.Core.List.{[], _∷_};
-ghost use Prim.Native.Nat.{_*_};
+ghost use Prim.Native.Nat.{_+_, _-_, _*_, _≤_, _<_};
 ghost use lib.Dec.{eqb, leb};
-ghost use Rattle.rules.specs.Numbers.{both, allowed, test, first};
-ghost use Rattle.rules.specs.Counts.{refreshDraws, andDraws, addDraws, toBoolDraws, toArithDraws};
+ghost use Rattle.rules.specs.Numbers.{longestMessage, both, allowed, test, first};
+ghost use Rattle.rules.specs.Counts.{refreshDraws, andDraws, addDraws, toBoolDraws, toArithDraws, compressDraws, hmacDraws};
 ghost use Rattle.rules.specs.Calls.{b2aTwo, a2bTwo, b2aRecordCall, a2bRecordCall, splitCall, openXorCall, openSumCall, refreshCall, expandCall, andCall, addCall, a2bCall, b2aCall};
 ghost use Rattle.rules.specs.Calls.{query, splitWords, refreshWords, expandWords, andWords, addWords, a2bWords, b2aWords};
+ghost use Rattle.rules.specs.Calls.{splitKeyCall, compressCall, hmacCall, splitKeyWords, compressWords, hmacWords};
 use rules::Answer;
+use rules::Chain;
+use rules::Compressed;
 use rules::Opened;
 
 // ---- two shares
@@ -58,6 +61,11 @@ const WRONG_OUTPUT: u32 = 3;
 const TOO_LONG: u32 = 4;
 
 const TOO_FEW_WORDS: u32 = 5;
+
+// The longest key given for splitting, and the longest message, in bytes.
+const LONGEST_KEY: usize = 64;
+
+const LONGEST_MESSAGE: usize = 4096;
 
 // The share counts that calls take: 1, 2, 4 and 8.
 fn is_allowed(n: usize) -> bool
@@ -133,6 +141,7 @@ fn done(drawn: usize) -> Answer
 
 // 0 at one share, and the number given for 2, 4 and 8.
 fn by_count(n: usize, two: usize, four: usize, eight: usize) -> usize
+    ensures { λ r. ⌜ r ≤ two + four + eight ⌝ }
     ensures { λ r. ⌜ ((n ≡ 1 → r ≡ 0) × (n ≡ 2 → r ≡ two) × (n ≡ 4 → r ≡ four) × (n ≡ 8 → r ≡ eight)) ⌝ }
 {
     if n == 2 {
@@ -180,6 +189,31 @@ fn b2a_draws(n: usize) -> usize
     ensures { λ r. ⌜ (allowed n ≡ true → toArithDraws (addDraws 32) refreshDraws n ≡ r) ⌝ }
 {
     by_count(n, 68, 462, 2342)
+}
+
+// Splitting a key: 16(n − 1).
+fn key_draws(n: usize) -> usize
+    ensures { λ r. ⌜ (allowed n ≡ true → 16 * (n - 1) ≡ r) ⌝ }
+{
+    by_count(n, 16, 48, 112)
+}
+
+// One compression: 5,220n(n − 1).
+fn compress_draws(n: usize) -> usize
+    ensures { λ r. ⌜ r ≤ 365400 ⌝ }
+    ensures { λ r. ⌜ (allowed n ≡ true → compressDraws 32 n ≡ r) ⌝ }
+{
+    by_count(n, 10440, 62640, 292320)
+}
+
+// HMAC of a message of so many bytes: floor((length + 8)/64) + 4 compressions.
+fn hmac_draws(n: usize, length: usize) -> usize
+    ensures { λ r. ⌜ (allowed n ≡ true → leb length longestMessage ≡ true → hmacDraws 32 n length ≡ r) ⌝ }
+{
+    if LONGEST_MESSAGE < length {
+        return 0;
+    }
+    ((length + 8) / 64 + 4) * compress_draws(n)
 }
 
 // ---- n shares
@@ -264,14 +298,15 @@ pub extern "C" fn flamivorse_refresh(n: usize, x: &[u32], y: &mut [u32], words: 
     done(shares::refresh_at(y, words, 0))
 }
 
-// Whether a length is 2n, for any n.
-fn is_double(length: usize, n: usize) -> bool
-    ensures { λ r. ⌜ r ≡ eqb length (n * 2) ⌝ }
+// Whether a length is m times n, for any n.
+fn is_times(length: usize, m: usize, n: usize) -> bool
+    requires { ⌜ 0 < m ⌝ }
+    ensures { λ r. ⌜ r ≡ eqb length (m * n) ⌝ }
 {
-    if length % 2 != 0 {
+    if length % m != 0 {
         return false;
     }
-    length / 2 == n
+    length / m == n
 }
 
 // 2n shares y of what the n shares x open to.
@@ -279,7 +314,14 @@ fn is_double(length: usize, n: usize) -> bool
 pub extern "C" fn flamivorse_expand(n: usize, x: &[u32], y: &mut [u32], words: &[u32]) -> Answer
     ensures { λ r. ⌜ expandCall n (now (x .entry)) (now (y .entry)) (now (words .entry)) ≡ (r, now (y .exit)) ⌝ }
 {
-    let number = first_number(n, x.len() == n, is_double(y.len(), n), true, n, words.len());
+    let number = first_number(
+        n,
+        x.len() == n,
+        is_times(y.len(), 2, n),
+        true,
+        n,
+        words.len(),
+    );
     if number != DONE {
         return refusal(number);
     }
@@ -374,13 +416,98 @@ pub extern "C" fn flamivorse_b2a(n: usize, x: &[u32], a: &mut [u32], words: &[u3
     done(shares::to_arith(x, a, words, 0))
 }
 
+// ---- SHA-1 and HMAC
+
+// A key of at most 64 bytes into shares: 16n words.
+#[no_mangle]
+pub extern "C" fn flamivorse_split_key(
+    n: usize,
+    key: &[u8],
+    shares: &mut [u32],
+    words: &[u32],
+) -> Answer
+    ensures { λ r. ⌜ splitKeyCall n (now (key .entry)) (now (shares .entry)) (now (words .entry)) ≡ (r, now (shares .exit)) ⌝ }
+{
+    let number = first_number(
+        n,
+        true,
+        is_times(shares.len(), 16, n),
+        key.len() <= LONGEST_KEY,
+        key_draws(n),
+        words.len(),
+    );
+    if number != DONE {
+        return refusal(number);
+    }
+    done(hmac::split_key(n, key, shares, words, 0))
+}
+
+// One compression of a block of 16n words in shares into a chain.
+#[no_mangle]
+pub extern "C" fn flamivorse_sha1_compress(
+    n: usize,
+    chain: Chain,
+    block: &[u32],
+    words: &[u32],
+) -> Compressed
+    ensures { λ r. ⌜ compressCall 32 n chain (now (block .entry)) (now (words .entry)) ≡ r ⌝ }
+{
+    let number = first_number(
+        n,
+        is_times(block.len(), 16, n),
+        true,
+        true,
+        compress_draws(n),
+        words.len(),
+    );
+    if number != DONE {
+        return Compressed {
+            number: number,
+            drawn: 0,
+            chain: chain,
+        };
+    }
+    let made = sha1::compress(n, chain, block, words, 0);
+    let next = made.chain;
+    Compressed {
+        number: DONE,
+        drawn: made.at,
+        chain: next,
+    }
+}
+
+// The tag of a message under a key in shares.
+#[no_mangle]
+pub extern "C" fn flamivorse_hmac_sha1(
+    n: usize,
+    key: &[u32],
+    message: &[u8],
+    tag: &mut [u8],
+    words: &[u32],
+) -> Answer
+    ensures { λ r. ⌜ hmacCall 32 n (now (key .entry)) (now (message .entry)) (now (tag .entry)) (now (words .entry)) ≡ (r, now (tag .exit)) ⌝ }
+{
+    let number = first_number(
+        n,
+        is_times(key.len(), 16, n),
+        tag.len() == 20,
+        message.len() <= LONGEST_MESSAGE,
+        hmac_draws(n, message.len()),
+        words.len(),
+    );
+    if number != DONE {
+        return refusal(number);
+    }
+    done(hmac::hmac_tag(n, key, message, tag, words, 0))
+}
+
 // ---- how many words a call will draw
 
-// The count, where n shares are taken.
-fn told(n: usize, drawn: usize) -> Answer
-    ensures { λ r. ⌜ query (test 1 (allowed n) ∷ []) drawn ≡ r ⌝ }
+// The count, where n shares are taken and the text is not too long.
+fn told(n: usize, fits: bool, drawn: usize) -> Answer
+    ensures { λ r. ⌜ query (test 1 (allowed n) ∷ test 4 fits ∷ []) drawn ≡ r ⌝ }
 {
-    let number = first_number(n, true, true, true, 0, 0);
+    let number = first_number(n, true, true, fits, 0, 0);
     if number != DONE {
         return refusal(number);
     }
@@ -391,47 +518,68 @@ fn told(n: usize, drawn: usize) -> Answer
 pub extern "C" fn flamivorse_split_words(n: usize) -> Answer
     ensures { λ r. ⌜ splitWords n ≡ r ⌝ }
 {
-    told(n, refresh_draws(n))
+    told(n, true, refresh_draws(n))
 }
 
 #[no_mangle]
 pub extern "C" fn flamivorse_refresh_words(n: usize) -> Answer
     ensures { λ r. ⌜ refreshWords n ≡ r ⌝ }
 {
-    told(n, refresh_draws(n))
+    told(n, true, refresh_draws(n))
 }
 
 #[no_mangle]
 pub extern "C" fn flamivorse_expand_words(n: usize) -> Answer
     ensures { λ r. ⌜ expandWords n ≡ r ⌝ }
 {
-    told(n, n)
+    told(n, true, n)
 }
 
 #[no_mangle]
 pub extern "C" fn flamivorse_and_words(n: usize) -> Answer
     ensures { λ r. ⌜ andWords n ≡ r ⌝ }
 {
-    told(n, and_draws(n))
+    told(n, true, and_draws(n))
 }
 
 #[no_mangle]
 pub extern "C" fn flamivorse_add_words(n: usize) -> Answer
     ensures { λ r. ⌜ addWords 32 n ≡ r ⌝ }
 {
-    told(n, add_draws(n))
+    told(n, true, add_draws(n))
 }
 
 #[no_mangle]
 pub extern "C" fn flamivorse_a2b_words(n: usize) -> Answer
     ensures { λ r. ⌜ a2bWords 32 n ≡ r ⌝ }
 {
-    told(n, a2b_draws(n))
+    told(n, true, a2b_draws(n))
 }
 
 #[no_mangle]
 pub extern "C" fn flamivorse_b2a_words(n: usize) -> Answer
     ensures { λ r. ⌜ b2aWords 32 n ≡ r ⌝ }
 {
-    told(n, b2a_draws(n))
+    told(n, true, b2a_draws(n))
+}
+
+#[no_mangle]
+pub extern "C" fn flamivorse_split_key_words(n: usize, length: usize) -> Answer
+    ensures { λ r. ⌜ splitKeyWords n length ≡ r ⌝ }
+{
+    told(n, length <= LONGEST_KEY, key_draws(n))
+}
+
+#[no_mangle]
+pub extern "C" fn flamivorse_sha1_compress_words(n: usize) -> Answer
+    ensures { λ r. ⌜ compressWords 32 n ≡ r ⌝ }
+{
+    told(n, true, compress_draws(n))
+}
+
+#[no_mangle]
+pub extern "C" fn flamivorse_hmac_sha1_words(n: usize, length: usize) -> Answer
+    ensures { λ r. ⌜ hmacWords 32 n length ≡ r ⌝ }
+{
+    told(n, length <= LONGEST_MESSAGE, hmac_draws(n, length))
 }

@@ -1,5 +1,5 @@
 -- What the definitions of the calls come to: refused, with what that leaves, or done. And that a promise has one outcome.
-use Prim.Native.Nat.{ℕ, zero, suc, _+_, _-_, _≤_, _<_}
+use Prim.Native.Nat.{ℕ, zero, suc, _*_, _+_, _-_, _≤_, _<_}
 use mathlib.Core.Path.{_≡_, refl, sym, ap, _∙_}
 use mathlib.Core.Bool.{Bool, true, false}
 use mathlib.Core.List.{List, [], _∷_, _++_}
@@ -9,16 +9,21 @@ use lib.Dec.{eqb, leb}
 use lib.ListN.{length}
 use borrow.Author.Tests.{eqb-true, eq-eqb, ne-eqb, leb-true}
 use Rattle.rules.specs.declared.Answer.{Answer}
+use Rattle.rules.specs.declared.Chain.{Chain}
+use Rattle.rules.specs.declared.Compressed.{Compressed}
 use Rattle.rules.specs.Supply.{Draw, Words, split}
 use Rattle.rules.specs.Numbers.{both, allowed, Test, test, orElse, first, settled}
 use Rattle.rules.specs.Shares.{refresh, expand, and, add}
 use Rattle.rules.specs.Convert.{toBool, toArith}
-use Rattle.rules.specs.Counts.{refreshDraws, andDraws, addDraws, toBoolDraws, toArithDraws}
-use Rattle.rules.specs.Calls.{recordCall, call, openCall, query}
+use Rattle.rules.specs.Counts.{refreshDraws, andDraws, addDraws, toBoolDraws, toArithDraws, compressDraws, hmacDraws}
+use Rattle.rules.specs.Sha1.{compress, used, chainOf}
+use Rattle.rules.specs.Hmac.{splitKey, hmacTag}
+use Rattle.rules.specs.Calls.{recordCall, call, openCall, query, compressCall}
 use Rattle.rules.proofs.Openings.{opened-lt}
 use Rattle.rules.proofs.Pairs.{refresh-rule, and-rule}
 use Rattle.rules.proofs.Addition.{add-loop-rule, expand-rule, split-rule}
 use Rattle.rules.proofs.Conversion.{add-adds, refresh-refreshes, toBool-rule, toArith-rule}
+use Rattle.rules.proofs.Sizes.{compress-sized, hmacTag-sized, splitKey-sized}
 use Rattle.rules.proofs.Allowed.{within, power-of}
 
 -- No two differing outcomes satisfy one promise: each promise is an equation to a definition.
@@ -130,24 +135,57 @@ module _ (n : ℕ) (number : ℕ) where
     pub was-opened : number ≡ 0 → openCall n x word ≡ record { number = 0; word = word }
     was-opened h = rw (← is, h)
 
-  module _ (is : number ≡ first (test 1 (allowed n) ∷ [])) (answer : Answer) (drawn : ℕ) where
-    pub not-told : (number ≡ 0 → ⊥) → answer ≡ record { number = number; drawn = 0 } → query (test 1 (allowed n) ∷ []) drawn ≡ answer
-    not-told h e = rw (← is, settled-refused number drawn 0 h, e)
+module _ (n : ℕ) (fits : Bool) (number : ℕ) (is : number ≡ first (test 1 (allowed n) ∷ test 4 fits ∷ [])) (answer : Answer) (drawn : ℕ) where
+  pub not-told : (number ≡ 0 → ⊥) → answer ≡ record { number = number; drawn = 0 } → query (test 1 (allowed n) ∷ test 4 fits ∷ []) drawn ≡ answer
+  not-told h e = rw (← is, settled-refused number drawn 0 h, e)
 
-    pub was-told : number ≡ 0 → answer ≡ record { number = 0; drawn = drawn } → query (test 1 (allowed n) ∷ []) drawn ≡ answer
-    was-told h e = rw (← is, h, e)
+  pub was-told : number ≡ 0 → answer ≡ record { number = 0; drawn = drawn } → query (test 1 (allowed n) ∷ test 4 fits ∷ []) drawn ≡ answer
+  was-told h e = rw (← is, h, e)
 
--- a query by a number that is the rule's where the count is taken
-pub same-query : (n drawn need : ℕ) → (allowed n ≡ true → drawn ≡ need) → query (test 1 (allowed n) ∷ []) drawn ≡ query (test 1 (allowed n) ∷ []) need
+-- a query by a number that is the rule's where the count is taken and the text is not too long
+pub same-query : (n : ℕ) (fits : Bool) (drawn need : ℕ) → (allowed n ≡ true → fits ≡ true → drawn ≡ need)
+    → query (test 1 (allowed n) ∷ test 4 fits ∷ []) drawn ≡ query (test 1 (allowed n) ∷ test 4 fits ∷ []) need
 unfolding first
-same-query n drawn need h = go (allowed n) h
+same-query n fits drawn need h = go (allowed n) fits h
   where
-    go : (t : Bool) → (t ≡ true → drawn ≡ need)
-        → (let m = orElse t 0 1 in _≡_ {A = Answer} (record { number = m; drawn = settled m drawn 0 }) (record { number = m; drawn = settled m need 0 }))
-    go true e = rw (e refl)
-    go false e = refl
+    go : (t s : Bool) → (t ≡ true → s ≡ true → drawn ≡ need)
+        → (let m = orElse t (orElse s 0 4) 1 in _≡_ {A = Answer} (record { number = m; drawn = settled m drawn 0 }) (record { number = m; drawn = settled m need 0 }))
+    go true true e = rw (e refl refl)
+    go true false e = refl
+    go false s e = refl
 
 -- both inputs have their length
 pub both-true : (a b : Bool) → both a b ≡ true → (a ≡ true) × (b ≡ true)
 both-true true b h = (refl, h)
 both-true false b h = let z : _≡_ {A = ℕ} 0 1 = cc in absurd (omega arith)
+
+-- ---- SHA-1 and HMAC: what the rules draw, at what was tested
+module _ (n : ℕ) (ok : allowed n ≡ true) (ws : List ℕ) where
+  pub splitKey-draws : (key : List ℕ) → splitKey n key ws 0 .1 ≡ 16 * (n - 1)
+  splitKey-draws key = splitKey-sized n key (within n ok .0) .place ws 0 ∙ zero-add (16 * (n - 1))
+
+  pub hmacTag-draws : (key text : List ℕ) → eqb (length key) (16 * n) ≡ true → hmacTag 32 (add 32) n key text ws 0 .1 ≡ hmacDraws 32 n (length text)
+  hmacTag-draws key text h =
+      hmacTag-sized 32 n (omega arith) (within n ok .0) key text (eqb-true (length key) (16 * n) h) .place ws 0 ∙ zero-add (hmacDraws 32 n (length text))
+
+  pub compress-draws : (h block : List ℕ) → length h ≡ 5 * n → eqb (length block) (16 * n) ≡ true → compress 32 (add 32) n h block ws 0 .1 ≡ compressDraws 32 n
+  compress-draws h block l e =
+      compress-sized 32 n (omega arith) (within n ok .0) h block l (eqb-true (length block) (16 * n) e) .place ws 0 ∙ zero-add (compressDraws 32 n)
+
+-- a compression, refused and done
+module _ (n : ℕ) (chain : Chain) (block ws : List ℕ) (need number : ℕ) (answer : Compressed)
+    (is : number ≡ first (tests n (eqb (length block) (16 * n)) true true ++ (test 5 (leb need (length ws)) ∷ [])))
+    (draws : allowed n ≡ true → eqb (length block) (16 * n) ≡ true → compress 32 (add 32) n (used n (chain .shares)) block ws 0 .1 ≡ need) where
+  abbrev made : List ℕ × ℕ
+  made = compress 32 (add 32) n (used n (chain .shares)) block ws 0
+
+  own-compress : number ≡ first (test 1 (allowed n) ∷ test 2 (eqb (length block) (16 * n)) ∷ test 5 (leb (made .1) (length ws)) ∷ [])
+  unfolding first
+  own-compress = own n (eqb (length block) (16 * n)) true true need (length ws) number is (made .1) (λ ok a b c. draws ok a)
+
+  pub compress-refused : (number ≡ 0 → ⊥) → answer ≡ record { number = number; drawn = 0; chain = chain } → compressCall 32 n chain block ws ≡ answer
+  compress-refused h e = rw (← own-compress, settled-refused number (made .1) 0 h, settled-refused number (record { shares = chainOf n (made .0) }) chain h, e)
+
+  pub compress-done : number ≡ 0 → (h shares : List ℕ) (drawn : ℕ) → made ≡ (h, drawn) → shares ≡ chainOf n h → answer ≡ record { number = 0; drawn = drawn; chain = record { shares = shares } }
+      → compressCall 32 n chain block ws ≡ answer
+  compress-done z h shares drawn e f g = rw (← own-compress, z, e, g, f)

@@ -7,12 +7,16 @@ use lib.ListN.{length}
 use Rattle.words.specs.Word.{plus, minus}
 use Rattle.rules.specs.declared.Answer.{Answer}
 use Rattle.rules.specs.declared.Opened.{Opened}
+use Rattle.rules.specs.declared.Chain.{Chain}
+use Rattle.rules.specs.declared.Compressed.{Compressed}
 use Rattle.rules.specs.Supply.{Draw, split, opened, openedSum}
-use Rattle.rules.specs.Numbers.{both, allowed, Test, test, first, settled}
+use Rattle.rules.specs.Numbers.{longestKey, longestMessage, both, allowed, Test, test, first, settled}
 use Rattle.rules.specs.Goubin.{b2aRecord, a2bRecord}
 use Rattle.rules.specs.Shares.{refresh, expand, and, add}
 use Rattle.rules.specs.Convert.{toBool, toArith}
-use Rattle.rules.specs.Counts.{refreshDraws, andDraws, addDraws, toBoolDraws, toArithDraws}
+use Rattle.rules.specs.Sha1.{compress, used, chainOf}
+use Rattle.rules.specs.Hmac.{splitKey, hmacTag}
+use Rattle.rules.specs.Counts.{refreshDraws, andDraws, addDraws, toBoolDraws, toArithDraws, compressDraws, hmacDraws}
 
 -- ---- two shares: working forms take plain numbers and refuse nothing
 -- x − r, from x′ and r with x = x′ ⊕ r
@@ -57,7 +61,7 @@ abbrev pub refreshCall : ℕ → List ℕ → List ℕ → List ℕ → Answer �
 refreshCall n x = oneCall n n x (refresh x)
 
 abbrev pub expandCall : ℕ → List ℕ → List ℕ → List ℕ → Answer × List ℕ
-expandCall n x = oneCall n (n * 2) x (expand x)
+expandCall n x = oneCall n (2 * n) x (expand x)
 
 abbrev pub andCall : ℕ → List ℕ → List ℕ → List ℕ → List ℕ → Answer × List ℕ
 andCall n x y = twoCall n x y (and x y)
@@ -70,6 +74,21 @@ a2bCall k n a = oneCall n n a (toBool (add k) a)
 
 abbrev pub b2aCall : ℕ → ℕ → List ℕ → List ℕ → List ℕ → Answer × List ℕ
 b2aCall k n x = oneCall n n x (toArith k (add k) refresh x)
+
+-- ---- SHA-1 and HMAC
+abbrev pub splitKeyCall : ℕ → List ℕ → List ℕ → List ℕ → Answer × List ℕ
+splitKeyCall n key came = call (test 1 (allowed n) ∷ test 3 (eqb (length came) (16 * n)) ∷ test 4 (leb (length key) longestKey) ∷ []) (splitKey n key) came
+
+abbrev pub hmacCall : ℕ → ℕ → List ℕ → List ℕ → List ℕ → List ℕ → Answer × List ℕ
+hmacCall k n key text came =
+    call (test 1 (allowed n) ∷ test 2 (eqb (length key) (16 * n)) ∷ test 3 (eqb (length came) 20) ∷ test 4 (leb (length text) longestMessage) ∷ []) (hmacTag k (add k) n key text) came
+
+-- a refused compression returns the chain record exactly as given
+abbrev pub compressCall : ℕ → ℕ → Chain → List ℕ → List ℕ → Compressed
+compressCall k n chain block ws =
+    let made = compress k (add k) n (used n (chain .shares)) block ws 0 in
+    let number = first (test 1 (allowed n) ∷ test 2 (eqb (length block) (16 * n)) ∷ test 5 (leb (made .1) (length ws)) ∷ []) in
+    record { number = number; drawn = settled number (made .1) 0; chain = settled number (record { shares = chainOf n (made .0) }) chain }
 
 -- ---- opening: no count, and the word 0 where it is refused
 abbrev pub openCall : ℕ → List ℕ → ℕ → Opened
@@ -109,3 +128,12 @@ a2bWords k n = query (test 1 (allowed n) ∷ []) (toBoolDraws (addDraws k) n)
 
 abbrev pub b2aWords : ℕ → ℕ → Answer
 b2aWords k n = query (test 1 (allowed n) ∷ []) (toArithDraws (addDraws k) refreshDraws n)
+
+abbrev pub splitKeyWords : ℕ → ℕ → Answer
+splitKeyWords n length = query (test 1 (allowed n) ∷ test 4 (leb length longestKey) ∷ []) (16 * (n - 1))
+
+abbrev pub compressWords : ℕ → ℕ → Answer
+compressWords k n = query (test 1 (allowed n) ∷ []) (compressDraws k n)
+
+abbrev pub hmacWords : ℕ → ℕ → ℕ → Answer
+hmacWords k n length = query (test 1 (allowed n) ∷ test 4 (leb length longestMessage) ∷ []) (hmacDraws k n length)

@@ -8,6 +8,13 @@ use lib.Dec.{eqb}
 abbrev pub largest : ℕ
 largest = 8
 
+-- the longest key given for splitting, and the longest message, in bytes
+abbrev pub longestKey : ℕ
+longestKey = 64
+
+abbrev pub longestMessage : ℕ
+longestMessage = 4096
+
 abbrev pub either : Bool → Bool → Bool
 either true b = true
 either false b = b

@@ -8,7 +8,7 @@ use Rattle.flamivorse.proofs.add_draws.Tie as tie
 
 returns : tie.Need-returns
 unfolding andDraws
-returns c = by-count (addDraws 32) (c .before .args .n) (c .by-count .result) 32 192 896 refl refl refl refl (c .by-count .ensures)
+returns c = by-count (addDraws 32) (c .before .args .n) (c .by-count .result) 32 192 896 refl refl refl refl (c .by-count .ensures .1)
 
 pub add-draws-spec : {M : Type 1} → statement M
 add-draws-spec = tie.close (tie.spec (λ c κs. search needs) returns)

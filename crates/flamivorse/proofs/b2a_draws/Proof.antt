@@ -8,7 +8,7 @@ use Rattle.flamivorse.proofs.b2a_draws.Tie as tie
 
 returns : tie.Need-returns
 unfolding andDraws toBoolDrawsIn toBoolDraws
-returns c = by-count (toArithDraws (addDraws 32) refreshDraws) (c .before .args .n) (c .by-count .result) 68 462 2342 refl refl refl refl (c .by-count .ensures)
+returns c = by-count (toArithDraws (addDraws 32) refreshDraws) (c .before .args .n) (c .by-count .result) 68 462 2342 refl refl refl refl (c .by-count .ensures .1)
 
 pub b2a-draws-spec : {M : Type 1} → statement M
 b2a-draws-spec = tie.close (tie.spec (λ c κs. search needs) returns)

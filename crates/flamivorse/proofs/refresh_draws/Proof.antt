@@ -7,7 +7,7 @@ use Rattle.flamivorse.proofs.refresh_draws.Statement.{statement}
 use Rattle.flamivorse.proofs.refresh_draws.Tie as tie
 
 returns : tie.Need-returns
-returns c = by-count refreshDraws (c .before .args .n) (c .by-count .result) 1 3 7 refl refl refl refl (c .by-count .ensures)
+returns c = by-count refreshDraws (c .before .args .n) (c .by-count .result) 1 3 7 refl refl refl refl (c .by-count .ensures .1)
 
 pub refresh-draws-spec : {M : Type 1} → statement M
 refresh-draws-spec = tie.close (tie.spec (λ c κs. search needs) returns)

@@ -17,11 +17,11 @@ pub add-in-spec : {M : Type 1} → statement M
 add-in-spec =
     tie.close
     (tie.spec
-    (λ c. search needs)  -- sub-z
-    (λ c. search needs)  -- part-z0-start
-    (λ c. search needs)  -- part-z0-end
+    (λ c. search needs)
+    (λ c. search needs)
+    (λ c. search needs)
     (λ c κs. let s = c .before .before .before .before .before .before in (s .pre .2 ∙ sym (s .pre .1), lent-length 8 (s .args .n) (s .pre .0) ∙ sym (s .pre .1), rw (s .pre .1) (s .pre .0), rw (s .pre .1) (s .pre .3)))
-    (λ c κs. search needs)  -- copy-requires
-    (λ c. search needs)  -- same-length
+    (λ c κs. search needs)
+    (λ c. search needs)
     returns
     )

@@ -18,11 +18,11 @@ pub blend-spec : {M : Type 1} → statement M
 blend-spec =
     tie.close
     (tie.spec
-    (λ c. search needs)  -- sub-y
-    (λ c. search needs)  -- part-y0-start
-    (λ c. search needs)  -- part-y0-end
+    (λ c. search needs)
+    (λ c. search needs)
+    (λ c. search needs)
     (λ c κs. let s = c .before .before .before .before .before .before .before in (s .pre .2 ∙ sym (s .pre .1), lent-length 8 (s .args .n) (s .pre .0) ∙ sym (s .pre .1), rw (s .pre .1) (s .pre .5)))
-    (λ c κs. search needs)  -- xor-each-requires
-    (λ c. search needs)  -- same-length
+    (λ c κs. search needs)
+    (λ c. search needs)
     returns
     )

@@ -15,11 +15,11 @@ pub choose-spec : {M : Type 1} → statement M
 choose-spec =
     tie.close
     (tie.spec
-    (λ c. search needs)  -- sub-v
-    (λ c. search needs)  -- part-v0-start
-    (λ c. search needs)  -- part-v0-end
-    (λ c κs. search needs)  -- xor-each-requires
-    (λ c κs. search needs)  -- blend-requires
-    (λ c. search needs)  -- same-length
+    (λ c. search needs)
+    (λ c. search needs)
+    (λ c. search needs)
+    (λ c κs. search needs)
+    (λ c κs. search needs)
+    (λ c. search needs)
     returns
     )

@@ -22,14 +22,14 @@ pub compress-spec : {M : Type 1} → statement M
 compress-spec =
     tie.close
     (tie.spec
-    (λ c. search needs)  -- mul-m
-    (λ c. search needs)  -- sub-h
-    (λ c. search needs)  -- part-h0-start
-    (λ c. search needs)  -- part-h0-end
-    (λ c κs. search needs)  -- load-requires
-    (λ c. search needs)  -- sub-z
-    (λ c. search needs)  -- part-z0-start
-    (λ c. search needs)  -- part-z0-end
-    (λ c κs. search needs)  -- compress-at-requires
+    (λ c. search needs)
+    (λ c. search needs)
+    (λ c. search needs)
+    (λ c. search needs)
+    (λ c κs. search needs)
+    (λ c. search needs)
+    (λ c. search needs)
+    (λ c. search needs)
+    (λ c κs. search needs)
     returns
     )

@@ -38,18 +38,18 @@ pub compress-at-spec : {M : Type 1} → statement M
 compress-at-spec =
     tie.close
     (tie.spec
-    (λ c. search needs)  -- mul-m
-    (λ c. search needs)  -- mul-k
-    (λ c. search needs)  -- sub-u
-    (λ c. search needs)  -- part-u0-start
-    (λ c. search needs)  -- part-u0-end
-    (λ c. search needs)  -- sub-s
-    (λ c. search needs)  -- part-s0-start
-    (λ c. search needs)  -- part-s0-end
-    (λ c κs. search needs)  -- schedule-at-requires
-    (λ c κs. search needs)  -- copy-requires
+    (λ c. search needs)
+    (λ c. search needs)
+    (λ c. search needs)
+    (λ c. search needs)
+    (λ c. search needs)
+    (λ c. search needs)
+    (λ c. search needs)
+    (λ c. search needs)
+    (λ c κs. search needs)
+    (λ c κs. search needs)
     rounds-at-requires
     sums-at-requires
-    (λ c. search needs)  -- same-length
+    (λ c. search needs)
     returns
     )

@@ -20,23 +20,23 @@ pub following-at-spec : {M : Type 1} → statement M
 following-at-spec =
     tie.close
     (tie.spec
-    (λ c. search needs)  -- sub-x
-    (λ c. search needs)  -- part-x0-start
-    (λ c. search needs)  -- part-x0-end
-    (λ c. search needs)  -- sub-y
-    (λ c. search needs)  -- part-y0-start
-    (λ c. search needs)  -- part-y0-end
-    (λ c. search needs)  -- sub-word
+    (λ c. search needs)
+    (λ c. search needs)
+    (λ c. search needs)
+    (λ c. search needs)
+    (λ c. search needs)
+    (λ c. search needs)
+    (λ c. search needs)
     (λ c κs. let s = c .before .before .before .before in omega (arith, word-room (s .args .n) (s .args .t - 3) 80 (omega (arith, s .pre .2)), s .pre .3))
-    (λ c. search needs)  -- sub-word-2
+    (λ c. search needs)
     (λ c κs. let s = c .before .before .before .before .before in omega (arith, word-room (s .args .n) (s .args .t - 8) 80 (omega (arith, s .pre .2)), s .pre .3))
-    (λ c. search needs)  -- sub-word-3
+    (λ c. search needs)
     (λ c κs. let s = c .before .before .before .before .before .before in omega (arith, word-room (s .args .n) (s .args .t - 14) 80 (omega (arith, s .pre .2)), s .pre .3))
-    (λ c κs. search needs)  -- parity-requires
-    (λ c. search needs)  -- sub-word-4
+    (λ c κs. search needs)
+    (λ c. search needs)
     (λ c κs. let s = c .before .before .before .before .before .before .before .before .before .before .before .before in omega (arith, word-room (s .args .n) (s .args .t - 16) 80 (omega (arith, s .pre .2)), s .pre .3))
-    (λ c κs. search needs)  -- xor-each-requires
-    (λ c κs. search needs)  -- rotate-requires
-    (λ c. search needs)  -- same-length
+    (λ c κs. search needs)
+    (λ c κs. search needs)
+    (λ c. search needs)
     returns
     )

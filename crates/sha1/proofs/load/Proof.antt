@@ -41,13 +41,13 @@ load-spec =
     Inv-loop
     μ-loop
     loop-holds
-    (λ c. search needs)  -- mul-v
-    (λ c. search needs)  -- element-copy-out-v
-    (λ c. search needs)  -- mul-h
-    (λ c. search needs)  -- slice-write-h
-    (λ c. search needs)  -- add-i
-    (λ c. search needs)  -- loop-less
+    (λ c. search needs)
+    (λ c. search needs)
+    (λ c. search needs)
+    (λ c. search needs)
+    (λ c. search needs)
+    (λ c. search needs)
     loop-again
-    (λ c. search needs)  -- same-length
+    (λ c. search needs)
     returns
     )

@@ -20,19 +20,19 @@ pub move-at-spec : {M : Type 1} → statement M
 move-at-spec =
     tie.close
     (tie.spec
-    (λ c. search needs)  -- sub-b
-    (λ c. search needs)  -- part-b0-start
-    (λ c. search needs)  -- part-b0-end
-    (λ c κs. search needs)  -- word-requires
-    (λ c κs. search needs)  -- rotate-requires
-    (λ c κs. search needs)  -- put-requires
-    (λ c κs. search needs)  -- put-word-requires
-    (λ c. search needs)  -- mul-put
-    (λ c κs. search needs)  -- put-requires-2
-    (λ c. search needs)  -- mul-put-word
-    (λ c κs. search needs)  -- put-word-requires-2
-    (λ c. search needs)  -- mul-put-word-2
-    (λ c κs. search needs)  -- put-word-requires-3
-    (λ c. search needs)  -- same-length
+    (λ c. search needs)
+    (λ c. search needs)
+    (λ c. search needs)
+    (λ c κs. search needs)
+    (λ c κs. search needs)
+    (λ c κs. search needs)
+    (λ c κs. search needs)
+    (λ c. search needs)
+    (λ c κs. search needs)
+    (λ c. search needs)
+    (λ c κs. search needs)
+    (λ c. search needs)
+    (λ c κs. search needs)
+    (λ c. search needs)
     returns
     )

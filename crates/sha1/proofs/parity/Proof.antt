@@ -14,11 +14,11 @@ pub parity-spec : {M : Type 1} → statement M
 parity-spec =
     tie.close
     (tie.spec
-    (λ c. search needs)  -- sub-x
-    (λ c. search needs)  -- part-x0-start
-    (λ c. search needs)  -- part-x0-end
-    (λ c κs. search needs)  -- xor-each-requires
-    (λ c κs. search needs)  -- xor-each-requires-2
-    (λ c. search needs)  -- same-length
+    (λ c. search needs)
+    (λ c. search needs)
+    (λ c. search needs)
+    (λ c κs. search needs)
+    (λ c κs. search needs)
+    (λ c. search needs)
     returns
     )

@@ -40,12 +40,12 @@ public-spec =
     Inv-loop
     μ-loop
     loop-holds
-    (λ c. search needs)  -- mul-z
-    (λ c. search needs)  -- slice-write-z
-    (λ c. search needs)  -- add-i
-    (λ c. search needs)  -- loop-less
+    (λ c. search needs)
+    (λ c. search needs)
+    (λ c. search needs)
+    (λ c. search needs)
     loop-again
-    (λ c. search needs)  -- slice-write-z-2
+    (λ c. search needs)
     (λ c. simp length-set (omega arith))
     returns
     )

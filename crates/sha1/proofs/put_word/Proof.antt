@@ -14,8 +14,8 @@ pub put-word-spec : {M : Type 1} → statement M
 put-word-spec =
     tie.close
     (tie.spec
-    (λ c κs. search needs)  -- word-requires
-    (λ c κs. search needs)  -- put-requires
-    (λ c. search needs)  -- same-length
+    (λ c κs. search needs)
+    (λ c κs. search needs)
+    (λ c. search needs)
     returns
     )

@@ -24,12 +24,12 @@ quarter-spec =
     tie.close
     (tie.spec
     (λ c κs. let s = c .before .before .before .before .before .before .before in (s .pre .1, s .pre .2, s .pre .3, s .pre .4, s .pre .5, rw (ands-one (s .args .q) (andDraws (s .args .n)) (inl (c .before .if1 .taken))) at (s .pre .6)))
-    (λ c. search needs)  -- same-length
+    (λ c. search needs)
     returns
     (λ c κs. let s = c .before .before .before .before .before .before .before .before in (s .pre .1, s .pre .2, s .pre .3, s .pre .4, s .pre .5, rw (ands-one (s .args .q) (andDraws (s .args .n)) (inr (c .before .if2 .taken))) at (s .pre .6)))
-    (λ c. search needs)  -- same-length-2
+    (λ c. search needs)
     returns-2
-    (λ c κs. search needs)  -- parity-requires
-    (λ c. search needs)  -- same-length-3
+    (λ c κs. search needs)
+    (λ c. search needs)
     returns-3
     )

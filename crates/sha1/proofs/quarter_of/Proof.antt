@@ -14,10 +14,10 @@ pub quarter-of-spec : {M : Type 1} → statement M
 quarter-of-spec =
     tie.close
     (tie.spec
-    (λ c κs. search needs)  -- word-requires
-    (λ c κs. search needs)  -- word-requires-2
-    (λ c κs. search needs)  -- word-requires-3
-    (λ c κs. search needs)  -- quarter-requires
-    (λ c. search needs)  -- same-length
+    (λ c κs. search needs)
+    (λ c κs. search needs)
+    (λ c κs. search needs)
+    (λ c κs. search needs)
+    (λ c. search needs)
     returns
     )

@@ -41,14 +41,14 @@ rotate-spec =
     Inv-loop
     μ-loop
     loop-holds
-    (λ c. search needs)  -- mul-rotate-share
-    (λ c. search needs)  -- shared-slice-read-rotate-share
-    (λ c κs. search needs)  -- rotate-share-requires
-    (λ c. search needs)  -- mul-z
-    (λ c. search needs)  -- slice-write-z
-    (λ c. search needs)  -- add-i
-    (λ c. search needs)  -- loop-less
+    (λ c. search needs)
+    (λ c. search needs)
+    (λ c κs. search needs)
+    (λ c. search needs)
+    (λ c. search needs)
+    (λ c. search needs)
+    (λ c. search needs)
     loop-again
-    (λ c. search needs)  -- same-length
+    (λ c. search needs)
     returns
     )

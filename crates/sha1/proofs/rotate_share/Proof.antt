@@ -17,8 +17,8 @@ pub rotate-share-spec : {M : Type 1} → statement M
 rotate-share-spec =
     tie.close
     (tie.spec
-    (λ c. search needs)  -- shl-result
-    (λ c. search needs)  -- sub-result
-    (λ c. search needs)  -- shr-result
+    (λ c. search needs)
+    (λ c. search needs)
+    (λ c. search needs)
     returns
     )

@@ -15,16 +15,16 @@ pub round-at-spec : {M : Type 1} → statement M
 round-at-spec =
     tie.close
     (tie.spec
-    (λ c. search needs)  -- mul-m
-    (λ c. search needs)  -- sub-t
-    (λ c. search needs)  -- part-t0-start
-    (λ c. search needs)  -- part-t0-end
-    (λ c. search needs)  -- sub-z
-    (λ c. search needs)  -- part-z0-start
-    (λ c. search needs)  -- part-z0-end
-    (λ c κs. search needs)  -- temp-at-requires
-    (λ c κs. search needs)  -- move-at-requires
-    (λ c κs. search needs)  -- copy-requires
-    (λ c. search needs)  -- same-length
+    (λ c. search needs)
+    (λ c. search needs)
+    (λ c. search needs)
+    (λ c. search needs)
+    (λ c. search needs)
+    (λ c. search needs)
+    (λ c. search needs)
+    (λ c κs. search needs)
+    (λ c κs. search needs)
+    (λ c κs. search needs)
+    (λ c. search needs)
     returns
     )

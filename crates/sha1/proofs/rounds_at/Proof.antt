@@ -49,9 +49,9 @@ rounds-at-spec =
     loop-holds
     (λ c κs. let l = c .before .loop in omega (arith, word-room (c .before .before .before .before .before .args .n) (l .t) 80 (omega arith), c .before .before .before .before .before .pre .2))
     (λ c κs. let s = c .before .before .before .before .before .before .before in let l = c .before .before .before .loop in (search needs, s .pre .0, s .pre .1, c .before .word .ensures .1, l .inv .1, omega (arith, roundsAnds-next 32 (80 - l .t) (80 - (l .t + 1)) (l .t) (andDraws (s .args .n)) (omega arith), s .pre .4, l .inv .2)))
-    (λ c. search needs)  -- add-t
-    (λ c. search needs)  -- loop-less
+    (λ c. search needs)
+    (λ c. search needs)
     loop-again
-    (λ c. search needs)  -- same-length
+    (λ c. search needs)
     returns
     )

@@ -43,12 +43,12 @@ schedule-at-spec =
     (tie.spec
     Inv-loop
     μ-loop
-    (λ c κs. search needs)  -- put-requires
+    (λ c κs. search needs)
     loop-holds
-    (λ c κs. search needs)  -- schedule-word-requires
-    (λ c. search needs)  -- add-t
-    (λ c. search needs)  -- loop-less
+    (λ c κs. search needs)
+    (λ c. search needs)
+    (λ c. search needs)
     loop-again
-    (λ c. search needs)  -- same-length
+    (λ c. search needs)
     returns
     )

@@ -23,12 +23,12 @@ pub schedule-word-spec : {M : Type 1} → statement M
 schedule-word-spec =
     tie.close
     (tie.spec
-    (λ c. search needs)  -- sub-x
-    (λ c. search needs)  -- part-x0-start
-    (λ c. search needs)  -- part-x0-end
-    (λ c κs. search needs)  -- following-at-requires
+    (λ c. search needs)
+    (λ c. search needs)
+    (λ c. search needs)
+    (λ c κs. search needs)
     (λ c. let s = c .before .before .before .before .before .before .before .before .before in omega (arith, word-room (s .args .n) (s .args .t) 80 (s .pre .2), s .pre .0))
     (λ c κs. let s = c .before .before .before .before .before .before .before .before .before in omega (arith, word-room (s .args .n) (s .args .t) 80 (s .pre .2), s .pre .3, c .before .before .before .before .following-at .kept .1 .1 .1 .0 ∙ lent-length 8 (s .args .n) (s .pre .0)))
-    (λ c. search needs)  -- same-length
+    (λ c. search needs)
     returns
     )

@@ -15,10 +15,10 @@ pub sum-in-spec : {M : Type 1} → statement M
 sum-in-spec =
     tie.close
     (tie.spec
-    (λ c κs. search needs)  -- add-in-requires
-    (λ c κs. search needs)  -- add-in-requires-2
-    (λ c κs. search needs)  -- add-in-requires-3
-    (λ c κs. search needs)  -- add-in-requires-4
-    (λ c. search needs)  -- same-length
+    (λ c κs. search needs)
+    (λ c κs. search needs)
+    (λ c κs. search needs)
+    (λ c κs. search needs)
+    (λ c. search needs)
     returns
     )

@@ -28,15 +28,15 @@ pub sum-word-spec : {M : Type 1} → statement M
 sum-word-spec =
     tie.close
     (tie.spec
-    (λ c. search needs)  -- sub-x
-    (λ c. search needs)  -- part-x0-start
-    (λ c. search needs)  -- part-x0-end
+    (λ c. search needs)
+    (λ c. search needs)
+    (λ c. search needs)
     (λ c κs. let s = c .before .before .before .before .before in omega (arith, word-room (s .args .n) (s .args .i) 5 (s .pre .1), s .pre .2, s .pre .3))
-    (λ c κs. search needs)  -- copy-requires
+    (λ c κs. search needs)
     (λ c κs. let s = c .before .before .before .before .before .before .before .before .before .before .before in omega (arith, word-room (s .args .n) (s .args .i) 5 (s .pre .1), s .pre .2, s .pre .3))
-    (λ c κs. search needs)  -- add-in-requires
+    (λ c κs. search needs)
     (λ c. let s = c .before .before .before .before .before .before .before .before .before .before .before .before .before .before .before .before .before in omega (arith, word-room (s .args .n) (s .args .i) 5 (s .pre .1), s .pre .0))
     (λ c κs. let s = c .before .before .before .before .before .before .before .before .before .before .before .before .before .before .before .before .before in omega (arith, word-room (s .args .n) (s .args .i) 5 (s .pre .1), s .pre .4, c .before .before .before .before .add-in .kept .1 .0 ∙ c .before .before .before .before .before .before .before .before .before .copy .kept .1 .0 ∙ lent-length 8 (s .args .n) (s .pre .0)))
-    (λ c. search needs)  -- same-length
+    (λ c. search needs)
     returns
     )

@@ -54,9 +54,9 @@ sums-at-spec =
     μ-loop
     loop-holds
     (λ c κs. let s = c .before .before .before .before .before .before .before in let l = c .before .before .loop in (s .pre .0, search needs, s .pre .1, s .pre .2, l .inv .1, omega (arith, times-suc (5 - l .i) (5 - (l .i + 1)) (32 * andDraws (s .args .n)) (omega arith), s .pre .4, l .inv .2)))
-    (λ c. search needs)  -- add-i
-    (λ c. search needs)  -- loop-less
+    (λ c. search needs)
+    (λ c. search needs)
     loop-again
-    (λ c. search needs)  -- same-length
+    (λ c. search needs)
     returns
     )

@@ -15,19 +15,19 @@ pub temp-at-spec : {M : Type 1} → statement M
 temp-at-spec =
     tie.close
     (tie.spec
-    (λ c. search needs)  -- sub-f
-    (λ c. search needs)  -- part-f0-start
-    (λ c. search needs)  -- part-f0-end
-    (λ c. search needs)  -- sub-k
-    (λ c. search needs)  -- part-k0-start
-    (λ c. search needs)  -- part-k0-end
-    (λ c κs. search needs)  -- word-requires
-    (λ c κs. search needs)  -- constant-requires
-    (λ c κs. search needs)  -- public-requires
-    (λ c κs. search needs)  -- word-requires-2
-    (λ c κs. search needs)  -- rotate-requires
-    (λ c κs. search needs)  -- quarter-of-requires
-    (λ c κs. search needs)  -- sum-in-requires
-    (λ c. search needs)  -- same-length
+    (λ c. search needs)
+    (λ c. search needs)
+    (λ c. search needs)
+    (λ c. search needs)
+    (λ c. search needs)
+    (λ c. search needs)
+    (λ c κs. search needs)
+    (λ c κs. search needs)
+    (λ c κs. search needs)
+    (λ c κs. search needs)
+    (λ c κs. search needs)
+    (λ c κs. search needs)
+    (λ c κs. search needs)
+    (λ c. search needs)
     returns
     )

@@ -15,11 +15,11 @@ pub word-spec : {M : Type 1} → statement M
 word-spec =
     tie.close
     (tie.spec
-    (λ c. search needs)  -- mul-a
-    (λ c. search needs)  -- add-e
-    (λ c. search needs)  -- mul-result
-    (λ c. search needs)  -- sub-result
-    (λ c. search needs)  -- part-result-start
-    (λ c. search needs)  -- part-result-end
+    (λ c. search needs)
+    (λ c. search needs)
+    (λ c. search needs)
+    (λ c. search needs)
+    (λ c. search needs)
+    (λ c. search needs)
     returns
     )
