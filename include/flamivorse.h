@@ -1,4 +1,4 @@
-/* Flamivorse: masked operations on 32-bit words, every call proved against its rules.
+/* Flamivorse: masked conversions of 32-bit words and masked HMAC-SHA-1, every call proved against its rules.
  *
  * Link with libflamivorse.a (rt staticlib flamivorse), on x86-64.
  *
@@ -7,12 +7,19 @@
  *  - the pointer is not null, even where the length is 0;
  *  - a slice that is written overlaps no other.
  *
- * Numbers handed back; the first that applies is given, in this order:
- *  0  done
- *  1  the share count is not 1, 2, 4 or 8
- *  2  an input slice has not exactly the length that the count asks for
- *  3  an output slice or record has not exactly its length
- *  5  the supply has fewer words than the call draws
+ * Shares: n is 1, 2, 4 or 8. Boolean shares of a word give it by XOR, arithmetic shares by their sum modulo 2^32. Of several words,
+ * share i of word w (both from 0) stands at place w * n + i.
+ *
+ * Words: the random words that a call draws are lent as a slice, used from its start and never written. Each must be fresh: no word
+ * serves two draws. Words after those drawn have no influence. The queries at the end say how many words a call draws.
+ *
+ * Numbers handed back; where several apply, the least is given:
+ *   0  done
+ *   1  the share count is not 1, 2, 4 or 8
+ *   2  an input slice has not exactly the length that the share count asks for
+ *   3  an output slice or record has not exactly its length
+ *   4  the message is over 4,096 bytes, or the key given for splitting is over 64
+ *   5  fewer words are lent than the call draws
  * A refusal reports 0 words drawn and leaves every slice as it came.
  */
 #ifndef FLAMIVORSE_H
@@ -25,11 +32,17 @@
 extern "C" {
 #endif
 
-/* What a call on n shares hands back: the number, and how many words it drew from the front of its supply. */
+/* The number, and how many words were drawn; of a query, how many will be. */
 typedef struct { uint32_t number; uint64_t drawn; } flamivorse_answer;
 
-/* What an opening hands back: the number, and the word, which is 0 where it is refused. */
+/* The number, and the opened word; 0 where refused. */
 typedef struct { uint32_t number; uint32_t word; } flamivorse_opened;
+
+/* A chain value of SHA-1 in shares. The first 5n places are used; the others are not looked at, and are 0 in an accepted answer. */
+typedef struct { uint32_t shares[40]; } flamivorse_chain;
+
+/* The number, how many words were drawn, and the chain after; where refused, the chain exactly as given. */
+typedef struct { uint32_t number; uint64_t drawn; flamivorse_chain chain; } flamivorse_compressed;
 
 /* Two shares, after Goubin. g is a fresh random word, used once. No step of the source, taken alone, tells anything of x. */
 
@@ -47,37 +60,65 @@ uint32_t flamivorse_b2a_2_record(uint32_t x1, uint32_t r, uint32_t g, uint32_t *
  * Hands back 0; or 3 where record_len is not 165, and then the record is as it came. */
 uint32_t flamivorse_a2b_2_record(uint32_t a, uint32_t r, uint32_t g, uint32_t *record, size_t record_len);
 
-/* n shares. `words` is the supply: fresh random words, drawn once each from the front; those after the ones drawn have no say.
- * Boolean shares of x: their XOR is x. Arithmetic shares of x: their sum modulo 2^32 is x. */
+/* n shares. Each slice has n words where nothing else is said. */
 
-/* Splits value into n Boolean shares: the next n - 1 words, then value XOR all of them. Tests 1, 3, 5. */
-flamivorse_answer flamivorse_split(size_t n, uint32_t value, uint32_t *shares, size_t shares_len, const uint32_t *words, size_t words_len);
+/* Splits value into Boolean shares: the n - 1 words drawn, then value XOR all of them. Refuses with 1, 3, 5. */
+flamivorse_answer flamivorse_split(size_t n, uint32_t value, uint32_t *shares, size_t shares_len,
+                                   const uint32_t *words, size_t words_len);
 
-/* Opens n Boolean shares. Tests 1, 2. */
+/* Opens Boolean shares: hands back their XOR. Refuses with 1, 2, and then the word is 0. */
 flamivorse_opened flamivorse_open_xor(size_t n, const uint32_t *shares, size_t shares_len);
 
-/* Opens n arithmetic shares. Tests 1, 2. */
+/* Opens arithmetic shares: hands back their sum modulo 2^32. Refuses with 1, 2, and then the word is 0. */
 flamivorse_opened flamivorse_open_sum(size_t n, const uint32_t *shares, size_t shares_len);
 
-/* Writes fresh Boolean shares y of what x opens to; n - 1 words. Tests 1, 2, 3, 5. */
-flamivorse_answer flamivorse_refresh(size_t n, const uint32_t *x, size_t x_len, uint32_t *y, size_t y_len, const uint32_t *words, size_t words_len);
+/* Writes to y fresh Boolean shares of what x shares; draws n - 1 words. Refuses with 1, 2, 3, 5. */
+flamivorse_answer flamivorse_refresh(size_t n, const uint32_t *x, size_t x_len, uint32_t *y, size_t y_len,
+                                     const uint32_t *words, size_t words_len);
 
-/* Writes 2n Boolean shares y of what the n shares x open to; n words. Tests 1, 2, 3, 5. */
-flamivorse_answer flamivorse_expand(size_t n, const uint32_t *x, size_t x_len, uint32_t *y, size_t y_len, const uint32_t *words, size_t words_len);
+/* Writes to y, of 2n words, twice as many Boolean shares of what x shares; draws n words. Refuses with 1, 2, 3, 5. */
+flamivorse_answer flamivorse_expand(size_t n, const uint32_t *x, size_t x_len, uint32_t *y, size_t y_len,
+                                    const uint32_t *words, size_t words_len);
 
-/* Writes Boolean shares z of x AND y; n(n-1)/2 words. Tests 1, 2, 3, 5. */
-flamivorse_answer flamivorse_and(size_t n, const uint32_t *x, size_t x_len, const uint32_t *y, size_t y_len, uint32_t *z, size_t z_len, const uint32_t *words, size_t words_len);
+/* Writes to z Boolean shares of the AND of what x and y share; draws n(n-1)/2 words. Refuses with 1, 2, 3, 5. */
+flamivorse_answer flamivorse_and(size_t n, const uint32_t *x, size_t x_len, const uint32_t *y, size_t y_len,
+                                 uint32_t *z, size_t z_len, const uint32_t *words, size_t words_len);
 
-/* Writes Boolean shares z of x + y modulo 2^32; 16n(n-1) words. Tests 1, 2, 3, 5. */
-flamivorse_answer flamivorse_add(size_t n, const uint32_t *x, size_t x_len, const uint32_t *y, size_t y_len, uint32_t *z, size_t z_len, const uint32_t *words, size_t words_len);
+/* Writes to z Boolean shares of the sum modulo 2^32 of what x and y share, both Boolean; draws 16n(n-1) words.
+ * Refuses with 1, 2, 3, 5. */
+flamivorse_answer flamivorse_add(size_t n, const uint32_t *x, size_t x_len, const uint32_t *y, size_t y_len,
+                                 uint32_t *z, size_t z_len, const uint32_t *words, size_t words_len);
 
-/* Writes Boolean shares x of what the arithmetic shares a add up to; 0, 34, 264 or 1,432 words. Tests 1, 2, 3, 5. */
-flamivorse_answer flamivorse_a2b(size_t n, const uint32_t *a, size_t a_len, uint32_t *x, size_t x_len, const uint32_t *words, size_t words_len);
+/* Arithmetic to Boolean: writes to x Boolean shares of what a shares arithmetically; draws 0, 34, 264 or 1,432 words.
+ * Refuses with 1, 2, 3, 5. */
+flamivorse_answer flamivorse_a2b(size_t n, const uint32_t *a, size_t a_len, uint32_t *x, size_t x_len,
+                                 const uint32_t *words, size_t words_len);
 
-/* Writes arithmetic shares a of what the Boolean shares x open to; 0, 68, 462 or 2,342 words. Tests 1, 2, 3, 5. */
-flamivorse_answer flamivorse_b2a(size_t n, const uint32_t *x, size_t x_len, uint32_t *a, size_t a_len, const uint32_t *words, size_t words_len);
+/* Boolean to arithmetic: writes to a arithmetic shares of what x shares by XOR; draws 0, 68, 462 or 2,342 words.
+ * Refuses with 1, 2, 3, 5. */
+flamivorse_answer flamivorse_b2a(size_t n, const uint32_t *x, size_t x_len, uint32_t *a, size_t a_len,
+                                 const uint32_t *words, size_t words_len);
 
-/* How many words a call will draw: number 0 and the count, or number 1 and 0. So many are always enough; one less is always 5. */
+/* SHA-1 and HMAC-SHA-1 on shares. */
+
+/* Splits a key of at most 64 bytes, padded with zero bytes to 64, into the Boolean shares of 16 big-endian words: shares has 16n words.
+ * Draws 16(n-1) words. Refuses with 1, 3, 4, 5. */
+flamivorse_answer flamivorse_split_key(size_t n, const uint8_t *key, size_t key_len, uint32_t *shares, size_t shares_len,
+                                       const uint32_t *words, size_t words_len);
+
+/* One compression of SHA-1: hands back the chain after the block, which has 16n words; draws 5,220n(n-1) words.
+ * Refuses with 1, 2, 5. */
+flamivorse_compressed flamivorse_sha1_compress(size_t n, flamivorse_chain chain, const uint32_t *block, size_t block_len,
+                                               const uint32_t *words, size_t words_len);
+
+/* The HMAC-SHA-1 tag of a whole message of at most 4,096 bytes, under a key of 16n words as flamivorse_split_key writes it: writes the
+ * opened tag, of 20 bytes. Nothing else is opened. Draws the words of (message_len + 8) / 64 + 4 compressions.
+ * Refuses with 1, 2 (the key), 3 (the tag), 4, 5. */
+flamivorse_answer flamivorse_hmac_sha1(size_t n, const uint32_t *key, size_t key_len, const uint8_t *message, size_t message_len,
+                                       uint8_t *tag, size_t tag_len, const uint32_t *words, size_t words_len);
+
+/* How many words a call draws: number 0 and the count, or the number with which the call refuses such an n (1) or length (4), and 0.
+ * Lending as many words is always enough, and one word less is always refused with 5. */
 flamivorse_answer flamivorse_split_words(size_t n);
 flamivorse_answer flamivorse_refresh_words(size_t n);
 flamivorse_answer flamivorse_expand_words(size_t n);
@@ -85,6 +126,9 @@ flamivorse_answer flamivorse_and_words(size_t n);
 flamivorse_answer flamivorse_add_words(size_t n);
 flamivorse_answer flamivorse_a2b_words(size_t n);
 flamivorse_answer flamivorse_b2a_words(size_t n);
+flamivorse_answer flamivorse_split_key_words(size_t n, size_t key_len);
+flamivorse_answer flamivorse_sha1_compress_words(size_t n);
+flamivorse_answer flamivorse_hmac_sha1_words(size_t n, size_t message_len);
 
 #ifdef __cplusplus
 }

@@ -1,0 +1,192 @@
+//! How fast the archive is beside the same steps in optimised Rust.
+//!
+//!     bench                        times every step on both sides in turns, and prints the ratios
+//!     bench STEP N SIDE REPEATS    makes one step so often and prints nothing, to count instructions
+
+mod optimised;
+
+use flamivorse::Chain;
+use optimised::{Convert, Optimised, Supply};
+use std::hint::black_box;
+use std::time::{Duration, Instant};
+
+const STEPS: [&str; 5] = ["addition", "a2b", "b2a", "compression", "tag"];
+const COUNTS: [usize; 4] = [1, 2, 4, 8];
+const MESSAGE: [u8; flamivorse::MESSAGE_LIMIT] = [0x61; flamivorse::MESSAGE_LIMIT];
+
+/// What one measurement takes at least. Short, so that some fall between whatever else runs.
+const SPAN: Duration = Duration::from_millis(2);
+
+/// How many measurements are made of each side, in turns, and for how long, at least.
+const TURNS: usize = 15;
+const BUDGET: Duration = Duration::from_secs(1);
+
+/// Makes a step once, and gives a number that depends on the whole answer.
+type Step = Box<dyn FnMut() -> u32>;
+
+/// The words that a step lends to its call, the same in every run.
+fn random_words(count: usize) -> &'static [u32] {
+    let mut state = 1u64;
+    let next = || {
+        state = state
+            .wrapping_mul(6_364_136_223_846_793_005)
+            .wrapping_add(1);
+        (state >> 32) as u32
+    };
+    std::iter::repeat_with(next)
+        .take(count)
+        .collect::<Vec<_>>()
+        .leak()
+}
+
+fn digest(words: impl IntoIterator<Item = u32>) -> u32 {
+    words
+        .into_iter()
+        .fold(0, |sum: u32, word| sum.rotate_left(1) ^ word)
+}
+
+/// The words of a slice, N shares to a word.
+fn shared<const N: usize, const WORDS: usize>(words: &[u32]) -> [[u32; N]; WORDS] {
+    std::array::from_fn(|word| std::array::from_fn(|share| words[word * N + share]))
+}
+
+/// The step as the archive makes it.
+fn archive<const N: usize>(step: &str) -> Step {
+    let input = random_words(40 * N);
+    let (x, y) = (&input[..N], &input[N..2 * N]);
+    let mut z = [0; N];
+    let words = random_words(drawn(step, N));
+    let done = "the arguments are right";
+    match step {
+        "addition" => Box::new(move || {
+            flamivorse::add(N, black_box(x), y, &mut z, words).expect(done);
+            digest(z)
+        }),
+        "a2b" => Box::new(move || {
+            flamivorse::a2b(N, black_box(x), &mut z, words).expect(done);
+            digest(z)
+        }),
+        "b2a" => Box::new(move || {
+            flamivorse::b2a(N, black_box(x), &mut z, words).expect(done);
+            digest(z)
+        }),
+        "compression" => Box::new(move || {
+            let mut chain = Chain { shares: [0; 40] };
+            chain.shares[..5 * N].copy_from_slice(&input[..5 * N]);
+            flamivorse::sha1_compress(N, &mut chain, black_box(&input[..16 * N]), words)
+                .expect(done);
+            digest(chain.shares[..5 * N].iter().copied())
+        }),
+        _ => Box::new(move || {
+            let mut tag = [0; 20];
+            flamivorse::hmac_sha1(N, black_box(&input[..16 * N]), &MESSAGE, &mut tag, words)
+                .expect(done);
+            digest(tag.map(u32::from))
+        }),
+    }
+}
+
+/// The step in optimised Rust.
+fn rust<const N: usize>(step: &str) -> Step
+where
+    Optimised: Convert<N>,
+{
+    let input = random_words(40 * N);
+    let [x, y] = shared::<N, 2>(input);
+    let words = random_words(drawn(step, N));
+    let supply = move || Supply { words, place: 0 };
+    match step {
+        "addition" => Box::new(move || digest(optimised::add(black_box(&x), &y, &mut supply()))),
+        "a2b" => Box::new(move || digest(Optimised::a2b(black_box(&x), &mut supply()))),
+        "b2a" => Box::new(move || digest(Optimised::b2a(black_box(&x), &mut supply()))),
+        "compression" => Box::new(move || {
+            let (chain, block) = (shared(input), shared(black_box(input)));
+            digest(optimised::compress::<N>(&chain, &block, &mut supply()).concat())
+        }),
+        _ => Box::new(move || {
+            let key = shared::<N, 16>(black_box(input));
+            digest(optimised::hmac(&key, &MESSAGE, &mut supply()).map(u32::from))
+        }),
+    }
+}
+
+/// How many words a step draws.
+fn drawn(step: &str, n: usize) -> usize {
+    let drawn = match step {
+        "addition" => flamivorse::add_words(n),
+        "a2b" => flamivorse::a2b_words(n),
+        "b2a" => flamivorse::b2a_words(n),
+        "compression" => flamivorse::sha1_compress_words(n),
+        _ => flamivorse::hmac_sha1_words(n, MESSAGE.len()),
+    };
+    drawn.expect("the share count is right").words()
+}
+
+/// Both sides of a step: the archive's, and Rust's.
+fn sides(step: &str, n: usize) -> [Step; 2] {
+    match n {
+        1 => [archive::<1>(step), rust::<1>(step)],
+        2 => [archive::<2>(step), rust::<2>(step)],
+        4 => [archive::<4>(step), rust::<4>(step)],
+        _ => [archive::<8>(step), rust::<8>(step)],
+    }
+}
+
+fn time(step: &mut Step, repeats: u32) -> Duration {
+    let start = Instant::now();
+    for _ in 0..repeats {
+        black_box(step());
+    }
+    start.elapsed()
+}
+
+/// The least time of each side for one step, in microseconds, over many turns.
+fn measure(mut sides: [Step; 2]) -> [f64; 2] {
+    let mut repeats = 1;
+    while time(&mut sides[0], repeats) < SPAN {
+        repeats *= 2;
+    }
+    let mut least = [Duration::MAX; 2];
+    let start = Instant::now();
+    for turn in 0.. {
+        if turn >= TURNS && start.elapsed() > BUDGET {
+            break;
+        }
+        for (step, least) in sides.iter_mut().zip(&mut least) {
+            *least = (*least).min(time(step, repeats));
+        }
+    }
+    least.map(|time| time.as_secs_f64() * 1e6 / f64::from(repeats))
+}
+
+/// Compares the answers of both sides, times them, and prints the table.
+fn table() {
+    println!("| step | shares | archive, µs | optimised Rust, µs | ratio |");
+    println!("|---|---|---|---|---|");
+    for step in STEPS {
+        for n in COUNTS {
+            let mut sides = sides(step, n);
+            let [archive, rust] = sides.each_mut().map(|step| step());
+            assert_eq!(archive, rust, "{step} at n = {n}");
+            let [archive, rust] = measure(sides);
+            println!(
+                "| {step} | {n} | {archive:.3} | {rust:.3} | {:.2} |",
+                archive / rust
+            );
+        }
+    }
+}
+
+fn main() {
+    let arguments: Vec<String> = std::env::args().skip(1).collect();
+    let [step, n, side, repeats] = arguments.as_slice() else {
+        return table();
+    };
+    let [mut archive, mut rust] = sides(step, n.parse().expect("a share count"));
+    let side = if side == "archive" {
+        &mut archive
+    } else {
+        &mut rust
+    };
+    time(side, repeats.parse().expect("a number of repeats"));
+}

@@ -1,0 +1,196 @@
+//! The same steps in optimised Rust: arrays of N shares, so that the compiler knows every length
+//! and unrolls every loop.
+
+/// The words lent, and the place of the next unused one.
+pub struct Supply<'a> {
+    pub words: &'a [u32],
+    pub place: usize,
+}
+
+impl Supply<'_> {
+    /// The next N words.
+    #[inline(always)]
+    fn draw(&mut self, count: usize) -> &[u32] {
+        let drawn = &self.words[self.place..self.place + count];
+        self.place += count;
+        drawn
+    }
+}
+
+#[inline(always)]
+fn each<const N: usize>(
+    x: &[u32; N],
+    y: &[u32; N],
+    operation: impl Fn(u32, u32) -> u32,
+) -> [u32; N] {
+    std::array::from_fn(|i| operation(x[i], y[i]))
+}
+
+#[inline(always)]
+fn xor<const N: usize>(x: &[u32; N], y: &[u32; N]) -> [u32; N] {
+    each(x, y, |a, b| a ^ b)
+}
+
+#[inline(always)]
+fn public<const N: usize>(value: u32) -> [u32; N] {
+    std::array::from_fn(|i| if i == 0 { value } else { 0 })
+}
+
+#[inline(always)]
+fn expand<const N: usize, const TWICE: usize>(x: [u32; N], supply: &mut Supply) -> [u32; TWICE] {
+    let words = supply.draw(N);
+    std::array::from_fn(|i| match i % 2 {
+        0 => x[i / 2] ^ words[i / 2],
+        _ => words[i / 2],
+    })
+}
+
+#[inline(always)]
+fn and<const N: usize>(x: &[u32; N], y: &[u32; N], supply: &mut Supply) -> [u32; N] {
+    let words = supply.draw(N * (N - 1) / 2);
+    let mut z = each(x, y, |a, b| a & b);
+    let mut place = 0;
+    for i in 0..N {
+        for j in i + 1..N {
+            let s = words[place];
+            place += 1;
+            z[i] ^= s;
+            z[j] ^= (s ^ (x[i] & y[j])) ^ (x[j] & y[i]);
+        }
+    }
+    z
+}
+
+pub fn add<const N: usize>(x: &[u32; N], y: &[u32; N], supply: &mut Supply) -> [u32; N] {
+    let w = and(x, y, supply);
+    let a = xor(x, y);
+    let mut u = [0; N];
+    for _ in 0..31 {
+        u = each(&and(&u, &a, supply), &w, |v, w| (v ^ w) << 1);
+    }
+    xor(&a, &u)
+}
+
+/// Both conversions at one share count. Halving a count is nothing that array lengths can say, so
+/// each count names its half.
+pub trait Convert<const N: usize> {
+    fn a2b(a: &[u32; N], supply: &mut Supply) -> [u32; N];
+
+    fn b2a(x: &[u32; N], supply: &mut Supply) -> [u32; N] {
+        let mut a = [0; N];
+        a[..N - 1].copy_from_slice(supply.draw(N - 1));
+        let converted = Self::a2b(&a.map(u32::wrapping_neg), supply);
+        let mut sum = add(x, &converted, supply);
+        for (i, word) in supply.draw(N - 1).iter().enumerate() {
+            sum[i] ^= word;
+            sum[N - 1] ^= word;
+        }
+        a[N - 1] = sum.iter().fold(0, |opened, share| opened ^ share);
+        a
+    }
+}
+
+/// The steps of the archive on arrays.
+pub struct Optimised;
+
+impl Convert<1> for Optimised {
+    fn a2b(a: &[u32; 1], _: &mut Supply) -> [u32; 1] {
+        *a
+    }
+}
+
+macro_rules! convert_by_halves {
+    ($($count:literal of $half:literal),*) => {$(
+        impl Convert<$count> for Optimised {
+            fn a2b(a: &[u32; $count], supply: &mut Supply) -> [u32; $count] {
+                let left = Self::a2b(&std::array::from_fn::<_, $half, _>(|i| a[i]), supply);
+                let left = expand(left, supply);
+                let right = Self::a2b(&std::array::from_fn::<_, $half, _>(|i| a[$half + i]), supply);
+                let right = expand(right, supply);
+                add(&left, &right, supply)
+            }
+        }
+    )*};
+}
+
+convert_by_halves!(2 of 1, 4 of 2, 8 of 4);
+
+/// A word in N shares.
+type Shared<const N: usize> = [u32; N];
+
+pub const START: [u32; 5] = [0x67452301, 0xefcdab89, 0x98badcfe, 0x10325476, 0xc3d2e1f0];
+
+fn schedule<const N: usize>(block: &[Shared<N>; 16]) -> [Shared<N>; 80] {
+    let mut w = [[0; N]; 80];
+    w[..16].copy_from_slice(block);
+    for t in 16..80 {
+        let sum = xor(&xor(&w[t - 3], &w[t - 8]), &xor(&w[t - 14], &w[t - 16]));
+        w[t] = sum.map(|share| share.rotate_left(1));
+    }
+    w
+}
+
+/// The function of round t on b, c and d, and the constant.
+#[inline(always)]
+fn function<const N: usize>(
+    t: usize,
+    [b, c, d]: [&Shared<N>; 3],
+    supply: &mut Supply,
+) -> (Shared<N>, u32) {
+    match t / 20 {
+        0 => (xor(d, &and(b, &xor(c, d), supply)), 0x5a827999),
+        1 => (xor(&xor(b, c), d), 0x6ed9eba1),
+        2 => (xor(d, &and(&xor(b, d), &xor(c, d), supply)), 0x8f1bbcdc),
+        _ => (xor(&xor(b, c), d), 0xca62c1d6),
+    }
+}
+
+pub fn compress<const N: usize>(
+    chain: &[Shared<N>; 5],
+    block: &[Shared<N>; 16],
+    supply: &mut Supply,
+) -> [Shared<N>; 5] {
+    let [mut a, mut b, mut c, mut d, mut e] = *chain;
+    for (t, w) in schedule(block).iter().enumerate() {
+        let (f, k) = function(t, [&b, &c, &d], supply);
+        let sum = add(&a.map(|share| share.rotate_left(5)), &f, supply);
+        let sum = add(&sum, &e, supply);
+        let sum = add(&sum, &public(k), supply);
+        let sum = add(&sum, w, supply);
+        (e, d, c, b, a) = (d, c, b.map(|share| share.rotate_left(30)), a, sum);
+    }
+    let rounds = [a, b, c, d, e];
+    std::array::from_fn(|i| add(&chain[i], &rounds[i], supply))
+}
+
+fn keyed<const N: usize>(key: &[Shared<N>; 16], pad: u32, supply: &mut Supply) -> [Shared<N>; 5] {
+    compress(
+        &START.map(public),
+        &key.map(|word| xor(&word, &public(pad))),
+        supply,
+    )
+}
+
+/// The tag of a message, whose padding is put into one buffer first.
+pub fn hmac<const N: usize>(
+    key: &[Shared<N>; 16],
+    message: &[u8],
+    supply: &mut Supply,
+) -> [u8; 20] {
+    let mut padded = message.to_vec();
+    padded.push(0x80);
+    padded.resize((message.len() + 8) / 64 * 64 + 56, 0);
+    padded.extend((8 * (64 + message.len() as u64)).to_be_bytes());
+    let mut inner = keyed(key, 0x36363636, supply);
+    for block in padded.chunks_exact(64) {
+        let word = |i: usize| u32::from_be_bytes(std::array::from_fn(|byte| block[4 * i + byte]));
+        inner = compress(&inner, &std::array::from_fn(|i| public(word(i))), supply);
+    }
+    let outer = keyed(key, 0x5c5c5c5c, supply);
+    let mut digest = [[0; N]; 16];
+    digest[..5].copy_from_slice(&inner);
+    digest[5] = public(0x80000000);
+    digest[15] = public(8 * (64 + 20));
+    let opened = compress(&outer, &digest, supply).map(|word| word.iter().fold(0, |x, s| x ^ s));
+    std::array::from_fn(|i| opened[i / 4].to_be_bytes()[i % 4])
+}

@@ -1,0 +1,84 @@
+//! The command line of Flamivorse: tags logs and checks tags, in the habit of sha1sum.
+
+#![forbid(unsafe_code)]
+
+mod arguments;
+mod check;
+mod line;
+mod problem;
+mod tagger;
+
+use arguments::{Command, Options, HELP};
+use flamivorse::{hmac_sha1_words, split_key_words, Refusal, KEY_LIMIT};
+use problem::{complain, Problem};
+use std::ffi::OsString;
+use std::io::{self, Write};
+use std::process::ExitCode;
+use tagger::Tagger;
+
+/// How a run ends.
+#[derive(Clone, Copy)]
+enum Status {
+    /// All done, and every tag checked was right.
+    Done = 0,
+    /// A tag was not right.
+    Failed = 1,
+    /// Something could not be done: a refusal, a file, the command line itself.
+    Trouble = 2,
+}
+
+fn main() -> ExitCode {
+    let status = arguments::parse(lexopt::Parser::from_env()).and_then(run);
+    let status = status.unwrap_or_else(|problem| {
+        complain(&problem);
+        Status::Trouble
+    });
+    ExitCode::from(status as u8)
+}
+
+fn run(command: Command) -> Result<Status, Problem> {
+    match command {
+        Command::Help => print(HELP.as_bytes())?,
+        Command::Version => {
+            print(concat!("flamivorse ", env!("CARGO_PKG_VERSION"), "\n").as_bytes())?
+        }
+        Command::Words { shares, length } => words(shares, length)?,
+        Command::Tag { options, logs } => return tag(&options, &logs),
+        Command::Check { options, lists } => return check::check(&options, &lists),
+    }
+    Ok(Status::Done)
+}
+
+/// Writes to standard output.
+fn print(text: &[u8]) -> Result<(), Problem> {
+    io::stdout()
+        .write_all(text)
+        .map_err(|error| Problem::file("standard output", error))
+}
+
+/// Prints the tag and the name of each log. One that cannot be tagged is told of, and the rest are
+/// tagged all the same.
+fn tag(options: &Options, logs: &[OsString]) -> Result<Status, Problem> {
+    let mut tagger = Tagger::new(options)?;
+    let mut status = Status::Done;
+    for name in logs {
+        match tagger.tag(name) {
+            Ok(tag) => print(&line::write(&tag, name))?,
+            Err(problem) => {
+                complain(&problem);
+                status = Status::Trouble;
+            }
+        }
+    }
+    Ok(status)
+}
+
+/// Prints how many words a tag draws, how many the splitting of the key draws, and the sum.
+fn words(shares: usize, length: usize) -> Result<(), Problem> {
+    let asked = format!("--shares {shares} --length {length}");
+    let refused = |refusal: Refusal| Problem::refused(&asked, refusal);
+    let tag = hmac_sha1_words(shares, length).map_err(refused)?;
+    let key = split_key_words(shares, KEY_LIMIT).map_err(refused)?;
+    let total = tag.words() + key.words();
+    print(format!("{tag} tag\n{key} key\n{total} total\n").as_bytes())
+}

@@ -1,0 +1,121 @@
+//! What a call hands back: how many words it drew, or why it refused.
+
+use std::error::Error;
+use std::fmt;
+
+/// How many random words a call drew; of a query, how many the call will draw.
+///
+/// ```
+/// assert_eq!(flamivorse::add_words(4)?.words(), 192);
+/// # Ok::<(), flamivorse::Refusal>(())
+/// ```
+#[derive(Clone, Copy, Debug, PartialEq, Eq, PartialOrd, Ord, Hash)]
+pub struct Drawn(u64);
+
+impl Drawn {
+    /// The count, as a length of slices.
+    #[must_use]
+    pub const fn words(self) -> usize {
+        self.0 as usize
+    }
+}
+
+impl fmt::Display for Drawn {
+    fn fmt(&self, f: &mut fmt::Formatter<'_>) -> fmt::Result {
+        self.0.fmt(f)
+    }
+}
+
+/// Why a call was refused. Where several reasons apply, the one with the least number is given.
+///
+/// ```
+/// use flamivorse::{open_xor, Refusal};
+///
+/// assert_eq!(open_xor(3, &[1, 2, 4]), Err(Refusal::ShareCount));
+/// assert_eq!(Refusal::ShareCount.number(), 1);
+/// assert_eq!(Refusal::ShareCount.to_string(), "the share count is not 1, 2, 4 or 8");
+/// ```
+#[derive(Clone, Copy, Debug, PartialEq, Eq, Hash)]
+#[non_exhaustive]
+pub enum Refusal {
+    /// Number 1: the share count is not 1, 2, 4 or 8.
+    ShareCount,
+    /// Number 2: an input slice has not exactly the length that the share count asks for.
+    InputLength,
+    /// Number 3: an output slice or record has not exactly its length.
+    OutputLength,
+    /// Number 4: the message is over 4,096 bytes, or the key given for splitting is over 64.
+    TooLong,
+    /// Number 5: fewer random words are lent than the call draws.
+    SupplyShort,
+    /// Another number. No call hands one back; it would mean an archive of another version.
+    Unknown(u32),
+}
+
+impl Refusal {
+    /// The number that the archive hands back for this refusal.
+    #[must_use]
+    pub const fn number(self) -> u32 {
+        match self {
+            Refusal::ShareCount => 1,
+            Refusal::InputLength => 2,
+            Refusal::OutputLength => 3,
+            Refusal::TooLong => 4,
+            Refusal::SupplyShort => 5,
+            Refusal::Unknown(number) => number,
+        }
+    }
+}
+
+impl fmt::Display for Refusal {
+    fn fmt(&self, f: &mut fmt::Formatter<'_>) -> fmt::Result {
+        f.write_str(match self {
+            Refusal::ShareCount => "the share count is not 1, 2, 4 or 8",
+            Refusal::InputLength => {
+                "an input has not exactly the length that the share count asks for"
+            }
+            Refusal::OutputLength => "an output has not exactly its length",
+            Refusal::TooLong => "the message is over 4,096 bytes, or the key is over 64",
+            Refusal::SupplyShort => "there are fewer random words than the call draws",
+            Refusal::Unknown(number) => {
+                return write!(f, "the archive gave the unknown number {number}")
+            }
+        })
+    }
+}
+
+impl Error for Refusal {}
+
+/// Done (number 0), or the refusal that a number stands for.
+pub(crate) fn done(number: u32) -> Result<(), Refusal> {
+    Err(match number {
+        0 => return Ok(()),
+        1 => Refusal::ShareCount,
+        2 => Refusal::InputLength,
+        3 => Refusal::OutputLength,
+        4 => Refusal::TooLong,
+        5 => Refusal::SupplyShort,
+        other => Refusal::Unknown(other),
+    })
+}
+
+/// The count of an accepted call, or its refusal.
+pub(crate) fn drawn(number: u32, words: u64) -> Result<Drawn, Refusal> {
+    done(number).map(|()| Drawn(words))
+}
+
+#[cfg(test)]
+mod tests {
+    use super::*;
+
+    #[test]
+    fn every_number_has_its_refusal() {
+        assert_eq!(done(0), Ok(()));
+        for number in (1..10).chain([u32::MAX]) {
+            let refusal = done(number).unwrap_err();
+            assert_eq!(refusal.number(), number);
+            assert_eq!(matches!(refusal, Refusal::Unknown(_)), number > 5);
+            assert!(!refusal.to_string().is_empty());
+        }
+    }
+}

@@ -1,0 +1,147 @@
+//! The archive's functions and structs, as include/flamivorse.h declares them. The tests beside
+//! this file hold the two together.
+
+use crate::answer;
+use crate::{Drawn, Refusal};
+use std::fmt;
+use zeroize::Zeroize;
+
+#[cfg(test)]
+mod header_tests;
+#[cfg(test)]
+mod refusal_tests;
+
+/// `flamivorse_answer`
+#[repr(C)]
+pub(crate) struct Answer {
+    pub(crate) number: u32,
+    pub(crate) drawn: u64,
+}
+
+impl Answer {
+    pub(crate) fn result(self) -> Result<Drawn, Refusal> {
+        answer::drawn(self.number, self.drawn)
+    }
+}
+
+/// `flamivorse_opened`
+#[repr(C)]
+pub(crate) struct Opened {
+    pub(crate) number: u32,
+    pub(crate) word: u32,
+}
+
+impl Opened {
+    pub(crate) fn result(self) -> Result<u32, Refusal> {
+        answer::done(self.number).map(|()| self.word)
+    }
+}
+
+/// A chain value of SHA-1 in Boolean shares, cleared when dropped.
+///
+/// The first 5n places are used: share i of chain word w at place w·n + i. The others are not
+/// looked at, and are 0 after an accepted compression.
+#[repr(C)]
+#[derive(Clone)]
+pub struct Chain {
+    /// The shares.
+    pub shares: [u32; 40],
+}
+
+impl Drop for Chain {
+    fn drop(&mut self) {
+        self.shares.zeroize();
+    }
+}
+
+impl fmt::Debug for Chain {
+    fn fmt(&self, f: &mut fmt::Formatter<'_>) -> fmt::Result {
+        f.debug_struct("Chain").finish_non_exhaustive()
+    }
+}
+
+/// `flamivorse_compressed`
+#[repr(C)]
+pub(crate) struct Compressed {
+    pub(crate) number: u32,
+    pub(crate) drawn: u64,
+    pub(crate) chain: Chain,
+}
+
+/// Calls a function that takes numbers, reads slices, writes one slice and draws words. In each
+/// place the caller has a `&[T]` or, for what is written, a `&mut [T]`.
+macro_rules! call {
+    ($function:ident($($value:expr),*), reads [$($input:expr),*], writes $output:expr, draws $words:expr) => {{
+        let (output, words) = (&mut *$output, $words);
+        // SAFETY: of Rust's slices all elements are there, no pointer is null, and what is written
+        // overlaps nothing else.
+        unsafe {
+            $crate::archive::$function(
+                $($value,)*
+                $($input.as_ptr(), $input.len(),)*
+                output.as_mut_ptr(),
+                output.len(),
+                words.as_ptr(),
+                words.len(),
+            )
+        }
+    }};
+}
+
+/// Calls a function that takes numbers alone.
+macro_rules! query {
+    ($function:ident($($value:expr),*)) => {
+        // SAFETY: it takes any numbers, and no memory.
+        unsafe { $crate::archive::$function($($value),*) }
+    };
+}
+
+/// The queries of calls whose draws the share count alone decides.
+macro_rules! queries {
+    ($($query:ident = $function:ident, $call:literal, $at_two:literal;)*) => {$(
+        #[doc = concat!("How many words [`", $call, "`](crate::", $call, ") draws at n shares.")]
+        ///
+        /// ```
+        #[doc = concat!("assert_eq!(flamivorse::", stringify!($query), "(2)?.words(), ", $at_two, ");")]
+        /// # Ok::<(), flamivorse::Refusal>(())
+        /// ```
+        pub fn $query(n: usize) -> Result<crate::Drawn, crate::Refusal> {
+            $crate::archive::query!($function(n)).result()
+        }
+    )*};
+}
+
+pub(crate) use {call, queries, query};
+
+#[rustfmt::skip]
+extern "C" {
+    pub(crate) fn flamivorse_b2a_2(x1: u32, r: u32, g: u32) -> u32;
+    pub(crate) fn flamivorse_a2b_2(a: u32, r: u32, g: u32) -> u32;
+    pub(crate) fn flamivorse_b2a_2_record(x1: u32, r: u32, g: u32, record: *mut u32, record_len: usize) -> u32;
+    pub(crate) fn flamivorse_a2b_2_record(a: u32, r: u32, g: u32, record: *mut u32, record_len: usize) -> u32;
+
+    pub(crate) fn flamivorse_split(n: usize, value: u32, shares: *mut u32, shares_len: usize, words: *const u32, words_len: usize) -> Answer;
+    pub(crate) fn flamivorse_open_xor(n: usize, shares: *const u32, shares_len: usize) -> Opened;
+    pub(crate) fn flamivorse_open_sum(n: usize, shares: *const u32, shares_len: usize) -> Opened;
+    pub(crate) fn flamivorse_refresh(n: usize, x: *const u32, x_len: usize, y: *mut u32, y_len: usize, words: *const u32, words_len: usize) -> Answer;
+    pub(crate) fn flamivorse_expand(n: usize, x: *const u32, x_len: usize, y: *mut u32, y_len: usize, words: *const u32, words_len: usize) -> Answer;
+    pub(crate) fn flamivorse_and(n: usize, x: *const u32, x_len: usize, y: *const u32, y_len: usize, z: *mut u32, z_len: usize, words: *const u32, words_len: usize) -> Answer;
+    pub(crate) fn flamivorse_add(n: usize, x: *const u32, x_len: usize, y: *const u32, y_len: usize, z: *mut u32, z_len: usize, words: *const u32, words_len: usize) -> Answer;
+    pub(crate) fn flamivorse_a2b(n: usize, a: *const u32, a_len: usize, x: *mut u32, x_len: usize, words: *const u32, words_len: usize) -> Answer;
+    pub(crate) fn flamivorse_b2a(n: usize, x: *const u32, x_len: usize, a: *mut u32, a_len: usize, words: *const u32, words_len: usize) -> Answer;
+
+    pub(crate) fn flamivorse_split_key(n: usize, key: *const u8, key_len: usize, shares: *mut u32, shares_len: usize, words: *const u32, words_len: usize) -> Answer;
+    pub(crate) fn flamivorse_sha1_compress(n: usize, chain: Chain, block: *const u32, block_len: usize, words: *const u32, words_len: usize) -> Compressed;
+    pub(crate) fn flamivorse_hmac_sha1(n: usize, key: *const u32, key_len: usize, message: *const u8, message_len: usize, tag: *mut u8, tag_len: usize, words: *const u32, words_len: usize) -> Answer;
+
+    pub(crate) fn flamivorse_split_words(n: usize) -> Answer;
+    pub(crate) fn flamivorse_refresh_words(n: usize) -> Answer;
+    pub(crate) fn flamivorse_expand_words(n: usize) -> Answer;
+    pub(crate) fn flamivorse_and_words(n: usize) -> Answer;
+    pub(crate) fn flamivorse_add_words(n: usize) -> Answer;
+    pub(crate) fn flamivorse_a2b_words(n: usize) -> Answer;
+    pub(crate) fn flamivorse_b2a_words(n: usize) -> Answer;
+    pub(crate) fn flamivorse_split_key_words(n: usize, key_len: usize) -> Answer;
+    pub(crate) fn flamivorse_sha1_compress_words(n: usize) -> Answer;
+    pub(crate) fn flamivorse_hmac_sha1_words(n: usize, message_len: usize) -> Answer;
+}

@@ -1,0 +1,159 @@
+//! Holds the declarations of archive.rs to include/flamivorse.h (functions, sizes, offsets) and to
+//! the symbols of the archive.
+
+use super::*;
+use std::collections::{BTreeMap, BTreeSet};
+use std::io::Write;
+use std::mem::{align_of, offset_of, size_of};
+use std::process::{Command, Stdio};
+
+const HEADER: &str = concat!(env!("CARGO_MANIFEST_DIR"), "/../../include/flamivorse.h");
+const DECLARATIONS: &str = include_str!("../archive.rs");
+
+/// Each function's name, with its parameters and answer written as Rust writes them.
+type Functions = BTreeMap<String, String>;
+
+/// A program of the tool chain: the one that the environment names, or else the machine's own.
+fn tool(variable: &str, default: &str) -> Command {
+    Command::new(std::env::var(variable).unwrap_or(default.into()))
+}
+
+/// The Rust type for a C type.
+fn rust_type(c: &str) -> String {
+    if let Some(pointee) = c.strip_suffix('*') {
+        return match pointee.trim().strip_prefix("const ") {
+            Some(constant) => format!("*const {}", rust_type(constant)),
+            None => format!("*mut {}", rust_type(pointee)),
+        };
+    }
+    match c.trim() {
+        "size_t" => "usize",
+        "uint8_t" => "u8",
+        "uint32_t" => "u32",
+        "uint64_t" => "u64",
+        "flamivorse_answer" => "Answer",
+        "flamivorse_opened" => "Opened",
+        "flamivorse_chain" => "Chain",
+        "flamivorse_compressed" => "Compressed",
+        other => panic!("{other}: no such type in the header's interface"),
+    }
+    .into()
+}
+
+/// A C type followed by a name, taken apart: "const uint32_t *x" is "const uint32_t *" and "x".
+fn type_and_name(c: &str) -> (String, String) {
+    let end = c.rfind([' ', '*']).expect("a type and a name") + 1;
+    (rust_type(c[..end].trim()), c[end..].to_string())
+}
+
+/// The header without comments and lines for the preprocessor, on one line.
+fn header_code() -> String {
+    let mut code = std::fs::read_to_string(HEADER).expect("the header");
+    while let Some(start) = code.find("/*") {
+        let end = start + code[start..].find("*/").expect("the comment's end") + 2;
+        code.replace_range(start..end, "");
+    }
+    let lines = code
+        .lines()
+        .filter(|line| !line.starts_with('#') && !line.contains("extern"));
+    lines
+        .flat_map(str::split_whitespace)
+        .collect::<Vec<_>>()
+        .join(" ")
+}
+
+fn header_functions() -> Functions {
+    let code = header_code();
+    let prototypes = code
+        .split(';')
+        .filter_map(|text| text.trim().strip_suffix(')')?.split_once('('));
+    prototypes
+        .map(|(head, parameters)| {
+            let (answer, name) = type_and_name(head);
+            let parameters: Vec<String> = parameters
+                .split(", ")
+                .map(type_and_name)
+                .map(|(kind, name)| format!("{name}: {kind}"))
+                .collect();
+            (name, format!("({}) -> {answer}", parameters.join(", ")))
+        })
+        .collect()
+}
+
+fn declared_functions() -> Functions {
+    DECLARATIONS
+        .lines()
+        .filter_map(|line| {
+            line.trim()
+                .strip_prefix("pub(crate) fn flamivorse_")?
+                .strip_suffix(';')
+        })
+        .map(|text| text.split_at(text.find('(').expect("parameters")))
+        .map(|(name, rest)| (format!("flamivorse_{name}"), rest.to_string()))
+        .collect()
+}
+
+#[test]
+fn the_header_declares_the_same_functions() {
+    assert_eq!(header_functions(), declared_functions());
+}
+
+#[test]
+fn the_archive_has_these_functions_and_no_others() {
+    let output = tool("NM", "nm")
+        .args([
+            "--defined-only",
+            "--extern-only",
+            env!("FLAMIVORSE_ARCHIVE"),
+        ])
+        .output();
+    let listing = String::from_utf8(output.expect("nm").stdout).expect("names");
+    let symbols: BTreeSet<String> = listing
+        .lines()
+        .filter_map(|line| line.split_once(" T ").map(|(_, name)| name.to_string()))
+        .collect();
+    assert_eq!(symbols, declared_functions().into_keys().collect());
+}
+
+/// C that compiles where a struct has this size and alignment, and these fields at these offsets.
+fn asserts(name: &str, size: usize, align: usize, fields: &[(&str, usize)]) -> String {
+    let mut asserts = format!(
+        "_Static_assert(sizeof({name}) == {size} && _Alignof({name}) == {align}, \"size\");\n"
+    );
+    for (field, offset) in fields {
+        asserts +=
+            &format!("_Static_assert(offsetof({name}, {field}) == {offset}, \"{field}\");\n");
+    }
+    asserts
+}
+
+/// The layouts that Rust gives the structs, as C that compiles where the header gives them the
+/// same.
+fn layouts() -> String {
+    macro_rules! layout {
+        ($c:literal, $rust:ident: $($field:ident),*) => {
+            asserts($c, size_of::<$rust>(), align_of::<$rust>(), &[$((stringify!($field), offset_of!($rust, $field))),*])
+        };
+    }
+    [
+        format!("#include \"{HEADER}\"\n"),
+        layout!("flamivorse_answer", Answer: number, drawn),
+        layout!("flamivorse_opened", Opened: number, word),
+        layout!("flamivorse_chain", Chain: shares),
+        layout!("flamivorse_compressed", Compressed: number, drawn, chain),
+    ]
+    .concat()
+}
+
+#[test]
+fn the_header_lays_the_structs_out_alike() {
+    let mut compiler = tool("CC", "cc")
+        .args(["-std=c11", "-Werror", "-fsyntax-only", "-x", "c", "-"])
+        .stdin(Stdio::piped())
+        .spawn()
+        .expect("a C compiler");
+    let mut input = compiler.stdin.take().expect("its input");
+    input.write_all(layouts().as_bytes()).expect("the program");
+    drop(input);
+    assert!(compiler.wait().expect("its end").success());
+}

@@ -1,0 +1,57 @@
+//! Masked conversions of 32-bit words and masked HMAC-SHA-1, for devices that stand where somebody
+//! may measure them.
+//!
+//! A secret exists only in shares, and every operation works on shares and on random words that the
+//! caller lends. The work is done by `libflamivorse.a`, which is written in Rattle and proved
+//! against its rules; this crate makes its calls safe to use from Rust. Nothing here panics, and no
+//! arguments make a call undefined: what cannot be done is a [`Refusal`], and a refused call leaves
+//! everything that was lent to it as it came.
+//!
+//! ```
+//! use flamivorse::{hmac_sha1_words, split_key_words, Key, Supply};
+//!
+//! let (key, log) = (b"sixteen byte key", b"07:30 door opened");
+//! let mut supply = Supply::from_system()?;
+//! let key = Key::split(4, key, supply.lend(split_key_words(4, key.len())?)?)?;
+//! let tag = key.tag(log, supply.lend(hmac_sha1_words(4, log.len())?)?)?;
+//! assert_eq!(tag[..4], [0xf6, 0x7d, 0x6c, 0x12]);
+//! # Ok::<(), Box<dyn std::error::Error>>(())
+//! ```
+//!
+//! # Shares
+//!
+//! The share count n is 1, 2, 4 or 8. Boolean shares of a word give it by XOR, arithmetic shares by
+//! their sum modulo 2^32. Of several words, share i of word w (both from 0) stands at place
+//! w·n + i.
+//!
+//! # Words
+//!
+//! Each call that draws random words takes them as a slice, uses them from its start, and says how
+//! many it drew. Each word must be fresh: no word may serve two draws. For every such call a query
+//! of the same name with `_words` says how many it draws, and a [`Supply`] lends as many.
+
+#![deny(missing_docs)]
+#![deny(unsafe_op_in_unsafe_fn)]
+
+#[cfg(not(all(target_arch = "x86_64", target_pointer_width = "64")))]
+compile_error!("libflamivorse.a is for x86-64");
+
+mod answer;
+mod archive;
+mod hmac;
+mod shares;
+mod supply;
+mod two;
+
+pub use answer::{Drawn, Refusal};
+pub use archive::Chain;
+pub use hmac::{
+    hmac_sha1, hmac_sha1_words, sha1_compress, sha1_compress_words, split_key, split_key_words,
+    Key, KEY_LIMIT, MESSAGE_LIMIT, TAG_BYTES,
+};
+pub use shares::{
+    a2b, a2b_words, add, add_words, and, and_words, b2a, b2a_words, expand, expand_words, open_sum,
+    open_xor, refresh, refresh_words, split, split_words,
+};
+pub use supply::{Bytes, Source, Supply};
+pub use two::{a2b_2, a2b_2_record, b2a_2, b2a_2_record, A2B_2_STEPS, B2A_2_STEPS};

@@ -1,0 +1,20 @@
+//! The archive from outside: every call through this crate, against `second` (an independent
+//! program written from the rules alone), against RustCrypto's HMAC, and against the limits of the
+//! rules.
+//!
+//! All random values are seeded, so that every run has the same cases. Each test prints how many it
+//! ran, as `cases: N, what`.
+
+mod against_second;
+mod calls;
+mod lent;
+mod random;
+mod reference;
+mod refusals;
+mod tags;
+mod two_shares;
+
+/// Says how many cases a test ran.
+fn report(cases: usize, what: &str) {
+    println!("cases: {cases}, {what}");
+}

@@ -1,0 +1,152 @@
+//! Tags against RustCrypto's HMAC-SHA-1, the vectors of RFC 2202, and the limits of the rules.
+
+use crate::random::Random;
+use crate::report;
+use flamivorse::{
+    a2b, hmac_sha1_words, open_xor, split_key_words, Key, Refusal, KEY_LIMIT, MESSAGE_LIMIT,
+    TAG_BYTES,
+};
+use hmac::{Hmac, Mac};
+use sha1::Sha1;
+
+/// The tag by RustCrypto.
+fn outside_tag(key: &[u8], message: &[u8]) -> [u8; TAG_BYTES] {
+    let mut hmac = Hmac::<Sha1>::new_from_slice(key).expect("HMAC takes any key");
+    hmac.update(message);
+    hmac.finalize().into_bytes().into()
+}
+
+/// The tag by the archive at n shares, with exactly the words that the queries tell.
+fn tag(
+    n: usize,
+    key: &[u8],
+    message: &[u8],
+    random: &mut Random,
+) -> Result<[u8; TAG_BYTES], Refusal> {
+    let words = random.words(split_key_words(n, key.len())?.words());
+    let key = Key::split(n, key, &words)?;
+    let words = random.words(hmac_sha1_words(n, message.len())?.words());
+    key.tag(message, &words)
+}
+
+/// Compares one tag of a random key and message.
+fn compare(n: usize, length: usize, random: &mut Random) {
+    let key_length = random.below(KEY_LIMIT + 1);
+    let (key, message) = (random.bytes(key_length), random.bytes(length));
+    assert_eq!(
+        tag(n, &key, &message, random),
+        Ok(outside_tag(&key, &message)),
+        "{length} bytes at n = {n}"
+    );
+}
+
+/// Lengths where a block ends (multiples of 64) or its padding does (8 less), and those beside
+/// them, for every so manieth block.
+fn edges(blocks: usize) -> impl Iterator<Item = usize> {
+    let around = |edge: usize| [edge - 9, edge - 8, edge - 7, edge - 1, edge, edge + 1];
+    let edges = (64 * blocks..=MESSAGE_LIMIT).step_by(64 * blocks);
+    edges
+        .flat_map(around)
+        .filter(|&length| length <= MESSAGE_LIMIT)
+}
+
+/// At one and two shares every length and edge; at four and eight, where a tag draws millions of
+/// words, every length to 200 and some of the edges.
+#[test]
+fn against_rustcrypto() {
+    let mut random = Random::new(400);
+    let mut cases = 0;
+    for (n, blocks) in [(1, 1), (2, 1), (4, 4), (8, 16)] {
+        for length in (0..=200).chain(edges(blocks)) {
+            compare(n, length, &mut random);
+            cases += 1;
+        }
+    }
+    report(cases, "tags against RustCrypto");
+}
+
+/// The SHA-1 cases of RFC 2202 that the key limit allows: key, message, tag.
+fn rfc2202() -> [(Vec<u8>, Vec<u8>, &'static str); 5] {
+    [
+        (
+            vec![0x0b; 20],
+            b"Hi There".to_vec(),
+            "b617318655057264e28bc0b6fb378c8ef146be00",
+        ),
+        (
+            b"Jefe".to_vec(),
+            b"what do ya want for nothing?".to_vec(),
+            "effcdf6ae5eb2fa2d27416d5f184df9c259a7c79",
+        ),
+        (
+            vec![0xaa; 20],
+            vec![0xdd; 50],
+            "125d7342b9ac11cd91a39af48aa17b4f63f175d3",
+        ),
+        (
+            (1..=25).collect(),
+            vec![0xcd; 50],
+            "4c9007f4026250c6bc8414f9bf50c86c2d7235da",
+        ),
+        (
+            vec![0x0c; 20],
+            b"Test With Truncation".to_vec(),
+            "4c1a03424b55e07fe7f27be1d58bb9324a9a5a04",
+        ),
+    ]
+}
+
+#[test]
+fn vectors_of_rfc_2202() {
+    let mut random = Random::new(401);
+    let mut cases = 0;
+    for n in [1, 2, 4, 8] {
+        for (key, message, expected) in rfc2202() {
+            let tag = tag(n, &key, &message, &mut random).expect("within the limits");
+            let text: String = tag.iter().map(|byte| format!("{byte:02x}")).collect();
+            assert_eq!(text, expected);
+            cases += 1;
+        }
+    }
+    report(cases, "vectors of RFC 2202");
+}
+
+#[test]
+fn limits() {
+    let mut random = Random::new(402);
+    for n in [1, 2, 4, 8] {
+        compare(n, MESSAGE_LIMIT, &mut random);
+        let key = Key::split(n, b"key", &random.words(16 * (n - 1))).expect("within the limits");
+        let words = random.words(
+            hmac_sha1_words(n, MESSAGE_LIMIT)
+                .expect("within the limits")
+                .words(),
+        );
+        assert_eq!(
+            key.tag(&[0; MESSAGE_LIMIT + 1], &words),
+            Err(Refusal::TooLong)
+        );
+        assert_eq!(hmac_sha1_words(n, MESSAGE_LIMIT + 1), Err(Refusal::TooLong));
+        assert!(Key::split(n, &[0; KEY_LIMIT], &words[..16 * (n - 1)]).is_ok());
+        assert_eq!(
+            Key::split(n, &[0; KEY_LIMIT + 1], &words).err(),
+            Some(Refusal::TooLong)
+        );
+    }
+    let mut x = [0; 2];
+    let words = random.words(34);
+    assert_eq!(
+        a2b(2, &[900, 100], &mut x, &words[..33]),
+        Err(Refusal::SupplyShort)
+    );
+    assert_eq!(
+        a2b(2, &[900, 100], &mut x, &words).map(|drawn| drawn.words()),
+        Ok(34)
+    );
+    assert_eq!(open_xor(2, &x), Ok(1000));
+    for n in [0, 3] {
+        assert_eq!(a2b(n, &[], &mut [], &[]), Err(Refusal::ShareCount));
+        assert_eq!(Key::split(n, b"key", &[]).err(), Some(Refusal::ShareCount));
+    }
+    report(4 * 5 + 7, "limits");
+}

@@ -1,0 +1,31 @@
+//! A second program for the masked HMAC-SHA-1 rules, written from the rule document alone, to be
+//! run beside the library and compared with it. Section numbers in comments are the document's.
+//!
+//! A call for n shares tests its arguments (section 3), works the rule out on vectors of its own
+//! (sections 2, 5 and 6), and only then writes its output, so that a refusal leaves every output
+//! as it came. The supply itself tells when it runs out, and the count reported is the place it
+//! ended at. Only the queries use formulas.
+
+#![forbid(unsafe_code)]
+#![deny(missing_docs)]
+
+mod calls;
+mod numbers;
+mod queries;
+mod rules;
+mod sha1;
+mod supply;
+#[cfg(test)]
+mod tests;
+mod two;
+
+pub use calls::{
+    a2b, add, and, b2a, expand, hmac_sha1, open_sum, open_xor, refresh, sha1_compress, split,
+    split_key,
+};
+pub use numbers::{Answer, Chain, Compressed, Opened};
+pub use queries::{
+    a2b_words, add_words, and_words, b2a_words, expand_words, hmac_sha1_words, refresh_words,
+    sha1_compress_words, split_key_words, split_words,
+};
+pub use two::{a2b_2, a2b_2_record, b2a_2, b2a_2_record};

@@ -1,0 +1,84 @@
+//! The queries: how many words a call will draw, by the formulas of sections 2, 5 and 6. Each
+//! gives number 0 and the count, or the call's refusal 1 or 4 and the count 0.
+
+use crate::numbers::{first_refusal, Answer};
+
+/// The formula for n, worked out only when nothing is refused.
+fn query(n: usize, tests: &[(u32, bool)], formula: impl FnOnce(u64) -> u64) -> Answer {
+    let number = first_refusal(n, tests);
+    let drawn = match number {
+        0 => formula(n as u64),
+        _ => 0,
+    };
+    Answer { number, drawn }
+}
+
+/// Section 5, addition: "16n(n−1) words at k = 32".
+fn addition(n: u64) -> u64 {
+    16 * n * (n - 1)
+}
+
+/// Section 5: "W(1) = 0 and W(n) = 2W(n/2) + n + 16n(n−1)".
+fn conversion(n: u64) -> u64 {
+    match n {
+        1 => 0,
+        _ => 2 * conversion(n / 2) + n + addition(n),
+    }
+}
+
+/// Section 6: "One compression draws 5,220·n(n−1) words."
+fn compression(n: u64) -> u64 {
+    5220 * n * (n - 1)
+}
+
+/// What `split` draws (section 2): n−1.
+pub fn split_words(n: usize) -> Answer {
+    query(n, &[], |n| n - 1)
+}
+
+/// What `refresh` draws (section 5): n−1.
+pub fn refresh_words(n: usize) -> Answer {
+    query(n, &[], |n| n - 1)
+}
+
+/// What `expand` draws (section 5): n.
+pub fn expand_words(n: usize) -> Answer {
+    query(n, &[], |n| n)
+}
+
+/// What `and` draws (section 5): n(n−1)/2.
+pub fn and_words(n: usize) -> Answer {
+    query(n, &[], |n| n * (n - 1) / 2)
+}
+
+/// What `add` draws (section 5): 16n(n−1).
+pub fn add_words(n: usize) -> Answer {
+    query(n, &[], addition)
+}
+
+/// What `a2b` draws (section 5): W(n).
+pub fn a2b_words(n: usize) -> Answer {
+    query(n, &[], conversion)
+}
+
+/// What `b2a` draws (section 5): 2(n−1) + W(n) + 16n(n−1).
+pub fn b2a_words(n: usize) -> Answer {
+    query(n, &[], |n| 2 * (n - 1) + conversion(n) + addition(n))
+}
+
+/// What `split_key` draws (section 2): 16(n−1).
+pub fn split_key_words(n: usize, key_len: usize) -> Answer {
+    query(n, &[(4, key_len > 64)], |n| 16 * (n - 1))
+}
+
+/// What `sha1_compress` draws (section 6): 5,220·n(n−1).
+pub fn sha1_compress_words(n: usize) -> Answer {
+    query(n, &[], compression)
+}
+
+/// What `hmac_sha1` draws (section 6): that of floor((L+8)/64) + 4 compressions.
+pub fn hmac_sha1_words(n: usize, message_len: usize) -> Answer {
+    query(n, &[(4, message_len > 4096)], |n| {
+        ((message_len as u64 + 8) / 64 + 4) * compression(n)
+    })
+}

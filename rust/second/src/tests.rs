@@ -1,0 +1,902 @@
+//! Tests: the reference values and limits of section 7, every refusal of section 3, the order of
+//! draws, and the openings against plain arithmetic and a plain SHA-1.
+
+use crate::supply::Supply;
+use crate::*;
+
+/// The share counts that are not refused.
+const COUNTS: [usize; 4] = [1, 2, 4, 8];
+/// Share counts that are refused.
+const WRONG_COUNTS: [usize; 7] = [0, 3, 5, 16, 1 << 28, usize::MAX / 16 + 2, usize::MAX];
+/// What stands in an output before a call.
+const BEFORE: u32 = 0xa5a5a5a5;
+/// The starting chain of FIPS 180-4, 5.3.1.
+const START: [u32; 5] = [0x67452301, 0xefcdab89, 0x98badcfe, 0x10325476, 0xc3d2e1f0];
+
+/// Pseudo-random words from a xorshift.
+fn random_words(seed: u64, count: u64) -> Vec<u32> {
+    let mut state = seed.wrapping_mul(0x9e3779b97f4a7c15) | 1;
+    let mut words = Vec::new();
+    for _ in 0..count {
+        state ^= state << 13;
+        state ^= state >> 7;
+        state ^= state << 17;
+        words.push((state >> 16) as u32);
+    }
+    words
+}
+
+/// Pseudo-random bytes.
+fn random_bytes(seed: u64, count: usize) -> Vec<u8> {
+    let words = random_words(seed, count as u64);
+    words.iter().map(|word| *word as u8).collect()
+}
+
+fn done(drawn: u64) -> Answer {
+    Answer { number: 0, drawn }
+}
+
+fn refused(number: u32) -> Answer {
+    Answer { number, drawn: 0 }
+}
+
+fn xor_of(shares: &[u32]) -> u32 {
+    shares.iter().fold(0, |word, share| word ^ share)
+}
+
+fn sum_of(shares: &[u32]) -> u32 {
+    shares
+        .iter()
+        .fold(0, |word: u32, share| word.wrapping_add(*share))
+}
+
+// A plain SHA-1 and HMAC (FIPS 180-4, RFC 2104), with f written as FIPS 180-4 writes it.
+
+fn plain_compress(chain: [u32; 5], block: &[u32]) -> [u32; 5] {
+    let mut w = block.to_vec();
+    for t in 16..80 {
+        w.push((w[t - 3] ^ w[t - 8] ^ w[t - 14] ^ w[t - 16]).rotate_left(1));
+    }
+    let [mut a, mut b, mut c, mut d, mut e] = chain;
+    for (t, wt) in w.iter().enumerate() {
+        let (f, k) = match t / 20 {
+            0 => ((b & c) ^ (!b & d), 0x5a827999),
+            1 => (b ^ c ^ d, 0x6ed9eba1),
+            2 => ((b & c) ^ (b & d) ^ (c & d), 0x8f1bbcdc),
+            _ => (b ^ c ^ d, 0xca62c1d6),
+        };
+        let sum = sum_of(&[a.rotate_left(5), f, e, k, *wt]);
+        (a, b, c, d, e) = (sum, a, b.rotate_left(30), c, d);
+    }
+    let mut new = chain;
+    for (word, step) in new.iter_mut().zip([a, b, c, d, e]) {
+        *word = word.wrapping_add(step);
+    }
+    new
+}
+
+fn plain_sha1(message: &[u8]) -> Vec<u8> {
+    let mut bytes = message.to_vec();
+    bytes.push(0x80);
+    bytes.resize((bytes.len() + 8).div_ceil(64) * 64 - 8, 0);
+    bytes.extend((message.len() as u64 * 8).to_be_bytes());
+    let mut chain = START;
+    for block in bytes.chunks(64) {
+        let words: Vec<u32> = block
+            .chunks(4)
+            .map(|four| u32::from_be_bytes(four.try_into().unwrap()))
+            .collect();
+        chain = plain_compress(chain, &words);
+    }
+    chain.iter().flat_map(|word| word.to_be_bytes()).collect()
+}
+
+fn plain_hmac(key: &[u8], message: &[u8]) -> Vec<u8> {
+    let mut block = key.to_vec();
+    block.resize(64, 0);
+    let mut inner: Vec<u8> = block.iter().map(|byte| byte ^ 0x36).collect();
+    inner.extend(message);
+    let mut outer: Vec<u8> = block.iter().map(|byte| byte ^ 0x5c).collect();
+    outer.extend(plain_sha1(&inner));
+    plain_sha1(&outer)
+}
+
+fn hex(bytes: &[u8]) -> String {
+    bytes.iter().map(|byte| format!("{byte:02x}")).collect()
+}
+
+// Calls on exactly the words that their queries name, for tests of what they answer.
+
+fn split_done(n: usize, value: u32, seed: u64) -> Vec<u32> {
+    let words = random_words(seed, split_words(n).drawn);
+    let mut shares = vec![BEFORE; n];
+    let answer = split(n, value, &mut shares, &words);
+    assert_eq!(answer.number, 0);
+    assert_eq!(answer, split_words(n));
+    shares
+}
+
+fn split_key_done(n: usize, key: &[u8], seed: u64) -> Vec<u32> {
+    let words = random_words(seed, split_key_words(n, key.len()).drawn);
+    let mut shares = vec![BEFORE; 16 * n];
+    let answer = split_key(n, key, &mut shares, &words);
+    assert_eq!(answer.number, 0);
+    assert_eq!(answer, split_key_words(n, key.len()));
+    shares
+}
+
+fn hmac_done(n: usize, key: &[u8], message: &[u8], seed: u64) -> Vec<u8> {
+    let shares = split_key_done(n, key, seed);
+    let words = random_words(seed + 1, hmac_sha1_words(n, message.len()).drawn);
+    let mut tag = [0xa5; 20];
+    let answer = hmac_sha1(n, &shares, message, &mut tag, &words);
+    assert_eq!(answer.number, 0);
+    assert_eq!(answer, hmac_sha1_words(n, message.len()));
+    tag.to_vec()
+}
+
+// Section 7, the reference values. Every step of section 4 is an XOR, an AND, a difference or a
+// double, and in each of them bit i of the result hangs on bits 0 to i alone. So the low k bits of
+// a step at 32 bits are that step at k bits.
+
+#[test]
+fn p1_b2a_record() {
+    let mut record = [BEFORE; 7];
+    assert_eq!(b2a_2_record(0x12, 0x34, 0x56, &mut record), 0);
+    let low = record.map(|step| step & 0xff);
+    assert_eq!(low, [0x44, 0xee, 0xfc, 0x62, 0x70, 0x0e, 0xf2]);
+}
+
+#[test]
+fn p2_a2b_record() {
+    let mut record = [BEFORE; 165];
+    assert_eq!(a2b_2_record(0x9, 0xc, 0x6, &mut record), 0);
+    let low = record.map(|step| step & 0xf);
+    assert_eq!(low[..9], [0xc, 0xa, 0x2, 0x5, 0x3, 0x0, 0x2, 0x8, 0xa]);
+    for round in 0..3 {
+        let place = 9 + 5 * round;
+        assert_eq!(low[place..place + 5], [0xc, 0x6, 0x8, 0xe, 0xc]);
+    }
+    assert_eq!(low[164], 0x9);
+}
+
+#[test]
+fn p3_and() {
+    let mut z = [BEFORE; 2];
+    let answer = and(2, &[0xf0, 0x0f], &[0x3c, 0x00], &mut z, &[0x55]);
+    assert_eq!(answer, done(1));
+    assert_eq!(z, [0x65, 0x59]);
+}
+
+#[test]
+fn p4_refresh_rule_of_three_shares() {
+    let mut supply = Supply::new(&[0x10, 0x20]);
+    let y = rules::refresh(&[0x01, 0x02, 0x04], &mut supply);
+    assert_eq!(y, Some(vec![0x11, 0x22, 0x34]));
+    assert_eq!(supply.drawn(), 2);
+    let mut y = [BEFORE; 3];
+    let answer = refresh(3, &[0x01, 0x02, 0x04], &mut y, &[0x10, 0x20]);
+    assert_eq!((answer, y), (refused(1), [BEFORE; 3]));
+}
+
+#[test]
+fn p5_expand() {
+    let mut y = [BEFORE; 4];
+    let answer = expand(2, &[0x11, 0x22], &mut y, &[0x01, 0x02]);
+    assert_eq!(answer, done(2));
+    assert_eq!(y, [0x10, 0x01, 0x20, 0x02]);
+}
+
+#[test]
+fn p6_b2a_record_of_zeros() {
+    let mut record = [BEFORE; 7];
+    assert_eq!(b2a_2_record(0, 0, 0, &mut record), 0);
+    assert_eq!(record, [0; 7]);
+}
+
+#[test]
+fn p7_a2b_answer() {
+    assert_eq!(a2b_2(0xff, 0x01, 0x00) & 0xff, 0x01);
+}
+
+#[test]
+fn p8_psi() {
+    let psi = |x1: u32, r: u32| (x1 ^ r).wrapping_sub(r);
+    assert_eq!(psi(0x12, 0x00), 0x12);
+    assert_eq!(psi(0x12, 0x34) & 0xff, 0xf2);
+    for three in random_words(8, 3000).chunks(3) {
+        let [x1, r, s] = [three[0], three[1], three[2]];
+        assert_eq!(psi(x1, r ^ s), psi(x1, r) ^ psi(x1, s) ^ x1);
+        assert_eq!(b2a_2(x1, r, s), psi(x1, r));
+    }
+}
+
+#[test]
+fn p9_p10_p11_counts() {
+    assert_eq!(COUNTS.map(|n| a2b_words(n).drawn), [0, 34, 264, 1432]);
+    assert_eq!(COUNTS.map(|n| b2a_words(n).drawn), [0, 68, 462, 2342]);
+    assert_eq!(hmac_sha1_words(2, 55), done(41760));
+    assert_eq!(hmac_sha1_words(2, 56), done(52200));
+}
+
+// Section 4.
+
+#[test]
+fn two_shares_are_right_and_records_end_in_the_answer() {
+    let mut words = random_words(4, 3000);
+    for edge in [0, 1, 0x7fffffff, 0x80000000, 0xffffffff] {
+        for other in [0, 1, 0x7fffffff, 0x80000000, 0xffffffff] {
+            words.extend([edge, other, 0, edge, other, 0xffffffff]);
+        }
+    }
+    for three in words.chunks(3) {
+        let [x, r, g] = [three[0], three[1], three[2]];
+        let mut record = [BEFORE; 7];
+        assert_eq!(b2a_2(x ^ r, r, g), x.wrapping_sub(r));
+        assert_eq!(b2a_2_record(x ^ r, r, g, &mut record), 0);
+        assert_eq!(record[6], x.wrapping_sub(r));
+        let mut record = [BEFORE; 165];
+        assert_eq!(a2b_2(x.wrapping_sub(r), r, g), x ^ r);
+        assert_eq!(a2b_2_record(x.wrapping_sub(r), r, g, &mut record), 0);
+        assert_eq!(record[164], x ^ r);
+    }
+}
+
+#[test]
+fn records_of_another_length_stay() {
+    for length in [0, 1, 6, 8, 164, 165, 166] {
+        let mut record = vec![BEFORE; length];
+        assert_eq!(b2a_2_record(1, 2, 3, &mut record), 3);
+        assert_eq!(record, vec![BEFORE; length]);
+    }
+    for length in [0, 1, 7, 164, 166] {
+        let mut record = vec![BEFORE; length];
+        assert_eq!(a2b_2_record(1, 2, 3, &mut record), 3);
+        assert_eq!(record, vec![BEFORE; length]);
+    }
+}
+
+// Sections 2 and 5: the openings, and the order of the draws.
+
+#[test]
+fn openings_are_right() {
+    for n in COUNTS {
+        for seed in 1..20 {
+            let [p, q] = [random_words(seed, 1)[0], random_words(seed + 50, 1)[0]];
+            let x = split_done(n, p, seed + 100);
+            let y = split_done(n, q, seed + 200);
+            let words = random_words(seed + 300, 3000);
+            let mut z = vec![BEFORE; n];
+            assert_eq!(open_xor(n, &x), Opened { number: 0, word: p });
+            assert_eq!(refresh(n, &x, &mut z, &words), refresh_words(n));
+            assert_eq!(xor_of(&z), p);
+            assert_eq!(and(n, &x, &y, &mut z, &words), and_words(n));
+            assert_eq!(xor_of(&z), p & q);
+            assert_eq!(add(n, &x, &y, &mut z, &words), add_words(n));
+            assert_eq!(xor_of(&z), p.wrapping_add(q));
+            let mut twice = vec![BEFORE; 2 * n];
+            assert_eq!(expand(n, &x, &mut twice, &words), expand_words(n));
+            assert_eq!(xor_of(&twice), p);
+            assert_eq!(b2a(n, &x, &mut z, &words), b2a_words(n));
+            assert_eq!(sum_of(&z), p);
+            assert_eq!(open_sum(n, &z), Opened { number: 0, word: p });
+            let mut back = vec![BEFORE; n];
+            assert_eq!(a2b(n, &z, &mut back, &words), a2b_words(n));
+            assert_eq!(xor_of(&back), p);
+        }
+    }
+}
+
+#[test]
+fn carries_run_from_the_bottom_to_the_top() {
+    for n in COUNTS {
+        let pairs = [(0x7fffffff, 1), (1, 0x7fffffff), (0xffffffff, 1)];
+        for (p, q) in pairs {
+            let x = split_done(n, p, 1);
+            let y = split_done(n, q, 2);
+            let words = random_words(3, 3000);
+            let mut z = vec![BEFORE; n];
+            add(n, &x, &y, &mut z, &words);
+            assert_eq!(xor_of(&z), p.wrapping_add(q));
+            let mut shares = vec![0; n];
+            shares[0] = p;
+            shares[n - 1] = shares[n - 1].wrapping_add(q);
+            a2b(n, &shares, &mut z, &words);
+            assert_eq!(xor_of(&z), p.wrapping_add(q));
+        }
+    }
+}
+
+#[test]
+fn one_share_is_the_plain_word() {
+    let mut z = [BEFORE];
+    assert_eq!(split(1, 7, &mut z, &[]), done(0));
+    assert_eq!(z, [7]);
+    assert_eq!(refresh(1, &[8], &mut z, &[]), done(0));
+    assert_eq!(z, [8]);
+    assert_eq!(and(1, &[12], &[10], &mut z, &[]), done(0));
+    assert_eq!(z, [8]);
+    assert_eq!(add(1, &[12], &[10], &mut z, &[]), done(0));
+    assert_eq!(z, [22]);
+    assert_eq!(a2b(1, &[9], &mut z, &[]), done(0));
+    assert_eq!(z, [9]);
+    assert_eq!(b2a(1, &[10], &mut z, &[]), done(0));
+    assert_eq!(z, [10]);
+    let mut y = [BEFORE; 2];
+    assert_eq!(expand(1, &[9], &mut y, &[5]), done(1));
+    assert_eq!(y, [12, 5]);
+}
+
+#[test]
+fn split_and_refresh_by_hand() {
+    let mut shares = [BEFORE; 4];
+    assert_eq!(split(4, 0x80, &mut shares, &[1, 2, 4, 99]), done(3));
+    assert_eq!(shares, [1, 2, 4, 0x87]);
+    let mut y = [BEFORE; 4];
+    let answer = refresh(4, &[1, 2, 4, 8], &mut y, &[0x10, 0x20, 0x40, 99]);
+    assert_eq!(answer, done(3));
+    assert_eq!(y, [0x11, 0x22, 0x44, 0x78]);
+}
+
+#[test]
+fn and_draws_pair_by_pair() {
+    // With x = 0 only the fresh words are left: 1 for (1,2), 2 for (1,3), 4 for (1,4), 8 for
+    // (2,3), 16 for (2,4), 32 for (3,4).
+    let mut z = [BEFORE; 4];
+    let answer = and(4, &[0; 4], &[0; 4], &mut z, &[1, 2, 4, 8, 16, 32]);
+    assert_eq!(answer, done(6));
+    assert_eq!(z, [7, 1 + 8 + 16, 2 + 8 + 32, 4 + 16 + 32]);
+}
+
+#[test]
+fn addition_is_made_of_ands_in_order() {
+    for n in [2, 4, 8] {
+        let words = random_words(1, add_words(n).drawn);
+        let mut parts = words.chunks(and_words(n).drawn as usize);
+        let x = random_words(2, n as u64);
+        let y = random_words(3, n as u64);
+        let mut w = vec![0; n];
+        and(n, &x, &y, &mut w, parts.next().unwrap());
+        let a: Vec<u32> = (0..n).map(|i| x[i] ^ y[i]).collect();
+        let mut u = vec![0; n];
+        for part in parts {
+            let mut carry = vec![0; n];
+            and(n, &u, &a, &mut carry, part);
+            u = (0..n).map(|i| (carry[i] ^ w[i]) << 1).collect();
+        }
+        let expected: Vec<u32> = (0..n).map(|i| x[i] ^ y[i] ^ u[i]).collect();
+        let mut z = vec![BEFORE; n];
+        assert_eq!(add(n, &x, &y, &mut z, &words), add_words(n));
+        assert_eq!(z, expected);
+    }
+}
+
+#[test]
+fn a2b_draws_for_the_left_half_first() {
+    for n in [2, 4, 8] {
+        let half = n / 2;
+        let words = random_words(1, a2b_words(n).drawn);
+        let a = random_words(2, n as u64);
+        let mut rest = &words[..];
+        let mut halves = Vec::new();
+        for part in a.chunks(half) {
+            let mut converted = vec![0; half];
+            let answer = a2b(half, part, &mut converted, rest);
+            rest = &rest[answer.drawn as usize..];
+            let mut expanded = vec![0; n];
+            let answer = expand(half, &converted, &mut expanded, rest);
+            rest = &rest[answer.drawn as usize..];
+            halves.push(expanded);
+        }
+        let mut expected = vec![0; n];
+        let answer = add(n, &halves[0], &halves[1], &mut expected, rest);
+        assert_eq!(answer.drawn as usize, rest.len());
+        let mut x = vec![BEFORE; n];
+        assert_eq!(a2b(n, &a, &mut x, &words), a2b_words(n));
+        assert_eq!(x, expected);
+    }
+}
+
+#[test]
+fn b2a_draws_in_order() {
+    for n in COUNTS {
+        let words = random_words(1, b2a_words(n).drawn);
+        let x = random_words(2, n as u64);
+        let (drawn, rest) = words.split_at(n - 1);
+        let mut negated: Vec<u32> = drawn.iter().map(|word| 0u32.wrapping_sub(*word)).collect();
+        negated.push(0);
+        let mut converted = vec![0; n];
+        let answer = a2b(n, &negated, &mut converted, rest);
+        let rest = &rest[answer.drawn as usize..];
+        let mut sum = vec![0; n];
+        let answer = add(n, &x, &converted, &mut sum, rest);
+        let rest = &rest[answer.drawn as usize..];
+        let mut refreshed = vec![0; n];
+        let answer = refresh(n, &sum, &mut refreshed, rest);
+        assert_eq!(answer.drawn as usize, rest.len());
+        let mut a = vec![BEFORE; n];
+        assert_eq!(b2a(n, &x, &mut a, &words), b2a_words(n));
+        assert_eq!(a[..n - 1], *drawn);
+        assert_eq!(a[n - 1], xor_of(&refreshed));
+    }
+}
+
+// Section 6.
+
+#[test]
+fn keys_are_split_word_by_word() {
+    for n in COUNTS {
+        for length in [0, 1, 3, 4, 20, 63, 64] {
+            let key = random_bytes(1, length);
+            let mut block = key.clone();
+            block.resize(64, 0);
+            let words = random_words(2, split_key_words(n, length).drawn);
+            let mut expected = Vec::new();
+            for (w, four) in block.chunks(4).enumerate() {
+                let mut shares = vec![0; n];
+                let value = u32::from_be_bytes(four.try_into().unwrap());
+                split(n, value, &mut shares, &words[w * (n - 1)..]);
+                expected.extend(shares);
+            }
+            assert_eq!(split_key_done(n, &key, 2), expected);
+        }
+    }
+}
+
+#[test]
+fn compression_opens_right_and_keeps_to_its_places() {
+    for n in COUNTS {
+        let words = random_words(1, sha1_compress_words(n).drawn);
+        let block = random_words(2, 16 * n as u64);
+        let mut chain = Chain { shares: [0; 40] };
+        chain.shares.copy_from_slice(&random_words(3, 40));
+        let answer = sha1_compress(n, chain, &block, &words);
+        assert_eq!(answer.number, 0);
+        assert_eq!(answer.drawn, sha1_compress_words(n).drawn);
+
+        let open_all = |shares: &[u32]| -> Vec<u32> { shares.chunks(n).map(xor_of).collect() };
+        let old: [u32; 5] = open_all(&chain.shares[..5 * n]).try_into().unwrap();
+        let new = plain_compress(old, &open_all(&block));
+        assert_eq!(open_all(&answer.chain.shares[..5 * n]), new);
+        assert!(answer.chain.shares[5 * n..].iter().all(|word| *word == 0));
+
+        let mut other = chain;
+        other.shares[5 * n..].fill(BEFORE);
+        assert_eq!(sha1_compress(n, other, &block, &words), answer);
+    }
+}
+
+#[test]
+fn compression_is_made_of_ands_and_additions_in_order() {
+    for n in [2, 4, 8] {
+        let words = random_words(1, sha1_compress_words(n).drawn);
+        let block = random_words(2, 16 * n as u64);
+        let mut chain = Chain { shares: [0; 40] };
+        chain.shares[..5 * n].copy_from_slice(&random_words(3, 5 * n as u64));
+
+        let place = std::cell::Cell::new(0);
+        type Rule = fn(usize, &[u32], &[u32], &mut [u32], &[u32]) -> Answer;
+        let next = |rule: Rule, x: &[u32], y: &[u32]| {
+            let mut z = vec![0; n];
+            let answer = rule(n, x, y, &mut z, &words[place.get()..]);
+            assert_eq!(answer.number, 0);
+            place.set(place.get() + answer.drawn as usize);
+            z
+        };
+        let xor = |x: &[u32], y: &[u32]| -> Vec<u32> { (0..n).map(|i| x[i] ^ y[i]).collect() };
+        let rotate = |x: &[u32], by| -> Vec<u32> { x.iter().map(|s| s.rotate_left(by)).collect() };
+        let constants = [0x5a827999, 0x6ed9eba1, 0x8f1bbcdc, 0xca62c1d6];
+
+        let mut w = block.clone();
+        for place in 16 * n..80 * n {
+            let [a, b] = [w[place - 3 * n] ^ w[place - 8 * n], w[place - 14 * n]];
+            w.push((a ^ b ^ w[place - 16 * n]).rotate_left(1));
+        }
+        let mut v = chain.shares[..5 * n].to_vec();
+        for t in 0..80 {
+            let word = |i: usize| &v[i * n..(i + 1) * n];
+            let (b, c, d) = (word(1), word(2), word(3));
+            let f = match t / 20 {
+                0 => xor(d, &next(and, b, &xor(c, d))),
+                2 => xor(d, &next(and, &xor(b, d), &xor(c, d))),
+                _ => xor(b, &xor(c, d)),
+            };
+            let mut k = vec![0; n];
+            k[0] = constants[t / 20];
+            let mut sum = rotate(word(0), 5);
+            for term in [&f[..], word(4), &k, &w[t * n..(t + 1) * n]] {
+                sum = next(add, &sum, term);
+            }
+            v = [&sum, word(0), &rotate(b, 30), c, d].concat();
+        }
+        let mut expected = Vec::new();
+        for (old, new) in chain.shares.chunks(n).zip(v.chunks(n)) {
+            expected.extend(next(add, old, new));
+        }
+        assert_eq!(place.get(), words.len());
+        let answer = sha1_compress(n, chain, &block, &words);
+        assert_eq!(answer.number, 0);
+        assert_eq!(answer.chain.shares[..5 * n], expected);
+    }
+}
+
+#[test]
+fn hmac_is_made_of_compressions_in_order() {
+    for n in COUNTS {
+        let message = random_bytes(1, 70);
+        let key = split_key_done(n, &random_bytes(2, 40), 3);
+        let words = random_words(4, hmac_sha1_words(n, 70).drawn);
+        let public = |values: &[u32]| {
+            let mut shares = vec![0; values.len() * n];
+            for (w, value) in values.iter().enumerate() {
+                shares[w * n] = *value;
+            }
+            shares
+        };
+        let mut start = Chain { shares: [0; 40] };
+        start.shares[..5 * n].copy_from_slice(&public(&START));
+        let with_pad = |pad: u32| {
+            let mut block = key.clone();
+            for w in 0..16 {
+                block[w * n] ^= pad;
+            }
+            block
+        };
+        let mut bytes = message.clone();
+        bytes.push(0x80);
+        bytes.resize(126, 0);
+        bytes.extend(((64u16 + 70) * 8).to_be_bytes());
+        let values: Vec<u32> = bytes
+            .chunks(4)
+            .map(|four| u32::from_be_bytes(four.try_into().unwrap()))
+            .collect();
+
+        let mut rest = &words[..];
+        let mut next = |chain: Chain, block: &[u32]| {
+            let answer = sha1_compress(n, chain, block, rest);
+            assert_eq!(answer.number, 0);
+            rest = &rest[answer.drawn as usize..];
+            answer.chain
+        };
+        let inner = next(start, &with_pad(0x36363636));
+        let inner = next(inner, &public(&values[..16]));
+        let inner = next(inner, &public(&values[16..]));
+        let outer = next(start, &with_pad(0x5c5c5c5c));
+        let mut block = inner.shares[..5 * n].to_vec();
+        block.extend(public(&[0x80000000, 0, 0, 0, 0, 0, 0, 0, 0, 0, 672]));
+        let outer = next(outer, &block);
+        assert!(rest.is_empty());
+        let expected: Vec<u8> = outer.shares[..5 * n]
+            .chunks(n)
+            .flat_map(|shares| xor_of(shares).to_be_bytes())
+            .collect();
+
+        let mut tag = [0xa5; 20];
+        let answer = hmac_sha1(n, &key, &message, &mut tag, &words);
+        assert_eq!(answer, hmac_sha1_words(n, 70));
+        assert_eq!(tag.to_vec(), expected);
+    }
+}
+
+#[test]
+fn rfc_2202() {
+    let counting: Vec<u8> = (1..=25).collect();
+    let cases: [(&[u8], &[u8], &str); 5] = [
+        (
+            &[0x0b; 20],
+            b"Hi There",
+            "b617318655057264e28bc0b6fb378c8ef146be00",
+        ),
+        (
+            b"Jefe",
+            b"what do ya want for nothing?",
+            "effcdf6ae5eb2fa2d27416d5f184df9c259a7c79",
+        ),
+        (
+            &[0xaa; 20],
+            &[0xdd; 50],
+            "125d7342b9ac11cd91a39af48aa17b4f63f175d3",
+        ),
+        (
+            &counting,
+            &[0xcd; 50],
+            "4c9007f4026250c6bc8414f9bf50c86c2d7235da",
+        ),
+        (
+            &[0x0c; 20],
+            b"Test With Truncation",
+            "4c1a03424b55e07fe7f27be1d58bb9324a9a5a04",
+        ),
+    ];
+    for n in COUNTS {
+        for (key, message, tag) in cases {
+            assert_eq!(hex(&plain_hmac(key, message)), tag);
+            assert_eq!(hex(&hmac_done(n, key, message, 1)), tag);
+        }
+        // Cases 6 and 7 have keys of 80 bytes, which are over the limit.
+        let mut shares = vec![BEFORE; 16 * n];
+        let words = random_words(1, 200);
+        let answer = split_key(n, &[0xaa; 80], &mut shares, &words);
+        assert_eq!(answer, refused(4));
+        assert_eq!(shares, vec![BEFORE; 16 * n]);
+    }
+}
+
+#[test]
+fn hmac_agrees_with_the_plain_one() {
+    assert_eq!(
+        hex(&plain_sha1(b"abc")),
+        "a9993e364706816aba3e25717850c26c9cd0d89d"
+    );
+    for n in COUNTS {
+        for length in [0, 1, 3, 4, 54, 55, 56, 57, 63, 64, 65, 119, 120, 128] {
+            let key = random_bytes(length as u64, length % 65);
+            let message = random_bytes(5, length);
+            let tag = hmac_done(n, &key, &message, 6);
+            assert_eq!(tag, plain_hmac(&key, &message), "n {n}, length {length}");
+        }
+    }
+}
+
+// Sections 3 and 7: the limits and the refusals.
+
+#[test]
+fn limits() {
+    let mut x = [BEFORE; 3];
+    assert_eq!(a2b(3, &[1, 2, 3], &mut x, &[]), refused(1));
+    assert_eq!(x, [BEFORE; 3]);
+    assert_eq!(a2b(0, &[], &mut [], &[]), refused(1));
+    let words = random_words(1, 34);
+    let mut x = [BEFORE; 2];
+    assert_eq!(a2b(2, &[5, 6], &mut x, &words[..33]), refused(5));
+    assert_eq!(x, [BEFORE; 2]);
+    assert_eq!(a2b(2, &[5, 6], &mut x, &words), done(34));
+    assert_eq!(xor_of(&x), 11);
+    let message = random_bytes(2, 4097);
+    for n in COUNTS {
+        let tag = hmac_done(n, b"key", &message[..4096], 3);
+        assert_eq!(tag, plain_hmac(b"key", &message[..4096]));
+        let mut tag = [0xa5; 20];
+        let answer = hmac_sha1(n, &vec![0; 16 * n], &message, &mut tag, &[]);
+        assert_eq!((answer, tag), (refused(4), [0xa5; 20]));
+        assert_eq!(hmac_sha1_words(n, 4097), refused(4));
+        assert_eq!(hmac_sha1_words(n, usize::MAX), refused(4));
+        assert_eq!(split_key_words(n, 64).number, 0);
+        assert_eq!(split_key_words(n, 65), refused(4));
+        assert_eq!(split_key_words(n, usize::MAX), refused(4));
+    }
+}
+
+/// A call made on a supply: its answer, and its output afterwards.
+type Call = Box<dyn Fn(&[u32]) -> (Answer, Vec<u32>)>;
+
+/// Each call that takes a supply, with count n: its query, and the call on inputs and on an output
+/// of the lengths given.
+fn calls(n: usize, input: usize, second: usize, output: usize) -> Vec<(Answer, Call)> {
+    let x = random_words(1, input as u64);
+    let y = random_words(2, second as u64);
+    type Rule1 = fn(usize, &[u32], &mut [u32], &[u32]) -> Answer;
+    type Rule2 = fn(usize, &[u32], &[u32], &mut [u32], &[u32]) -> Answer;
+    let one: [(Answer, Rule1); 3] = [
+        (refresh_words(n), refresh),
+        (a2b_words(n), a2b),
+        (b2a_words(n), b2a),
+    ];
+    let two: [(Answer, Rule2); 2] = [(and_words(n), and), (add_words(n), add)];
+    let mut calls: Vec<(Answer, Call)> = Vec::new();
+    for (query, rule) in two {
+        let (x, y) = (x.clone(), y.clone());
+        let call = move |words: &[u32]| {
+            let mut z = vec![BEFORE; output];
+            (rule(n, &x, &y, &mut z, words), z)
+        };
+        calls.push((query, Box::new(call)));
+    }
+    if second == input {
+        for (query, rule) in one {
+            let x = x.clone();
+            let call = move |words: &[u32]| {
+                let mut z = vec![BEFORE; output];
+                (rule(n, &x, &mut z, words), z)
+            };
+            calls.push((query, Box::new(call)));
+        }
+    }
+    calls
+}
+
+/// The calls whose lengths are not simply n, with lengths that are right for n.
+fn longer_calls(n: usize) -> Vec<(Answer, Call)> {
+    let value = move |words: &[u32]| {
+        let mut shares = vec![BEFORE; n];
+        (split(n, 0x12345678, &mut shares, words), shares)
+    };
+    let twice = move |words: &[u32]| {
+        let mut y = vec![BEFORE; 2 * n];
+        let x = random_words(1, n as u64);
+        (expand(n, &x, &mut y, words), y)
+    };
+    let key = move |words: &[u32]| {
+        let mut shares = vec![BEFORE; 16 * n];
+        (split_key(n, b"a key", &mut shares, words), shares)
+    };
+    let compression = move |words: &[u32]| {
+        let chain = Chain {
+            shares: [BEFORE; 40],
+        };
+        let answer = sha1_compress(n, chain, &random_words(1, 16 * n as u64), words);
+        let Compressed { number, drawn, .. } = answer;
+        (Answer { number, drawn }, answer.chain.shares.to_vec())
+    };
+    let mac = move |words: &[u32]| {
+        let mut tag = [0xa5; 20];
+        let key = random_words(1, 16 * n as u64);
+        let answer = hmac_sha1(n, &key, b"a message", &mut tag, words);
+        let output = tag
+            .chunks(4)
+            .map(|four| u32::from_be_bytes(four.try_into().unwrap()));
+        (answer, output.collect())
+    };
+    vec![
+        (split_words(n), Box::new(value)),
+        (expand_words(n), Box::new(twice)),
+        (split_key_words(n, 5), Box::new(key)),
+        (sha1_compress_words(n), Box::new(compression)),
+        (hmac_sha1_words(n, 9), Box::new(mac)),
+    ]
+}
+
+#[test]
+fn queries_name_what_is_drawn() {
+    for n in COUNTS {
+        for (query, call) in calls(n, n, n, n).into_iter().chain(longer_calls(n)) {
+            assert_eq!(query.number, 0);
+            let drawn = query.drawn as usize;
+            let words = random_words(7, query.drawn + 5);
+            let (answer, output) = call(&words[..drawn]);
+            assert_eq!(answer, query);
+            // Words after those drawn have no influence.
+            assert_eq!(call(&words), (answer, output));
+            // One word less, or none, is refused, and the output stays.
+            for less in [drawn.saturating_sub(1), drawn / 2, 0] {
+                if less < drawn {
+                    let (answer, output) = call(&words[..less]);
+                    assert_eq!(answer, refused(5));
+                    assert!(output.iter().all(|word| *word == BEFORE));
+                }
+            }
+        }
+    }
+}
+
+#[test]
+fn lengths_are_refused_in_order() {
+    for n in COUNTS {
+        let wrong = [0, n - 1, n + 1, 2 * n, 16];
+        for other in wrong.into_iter().filter(|other| *other != n) {
+            let lengths = [
+                (other, n, n, 2),
+                (n, other, n, 2),
+                (other, other, n, 2),
+                (other, other, other, 2),
+                (n, n, other, 3),
+            ];
+            for (input, second, output, number) in lengths {
+                for (_, call) in calls(n, input, second, output) {
+                    let expected = (refused(number), vec![BEFORE; output]);
+                    assert_eq!(call(&[]), expected);
+                    assert_eq!(call(&random_words(1, 3000)), expected);
+                }
+            }
+            let mut shares = vec![BEFORE; other];
+            assert_eq!(split(n, 1, &mut shares, &[]), refused(3));
+            let two = refused(2);
+            assert_eq!(expand(n, &vec![1; other], &mut shares, &[]), two);
+            assert_eq!(shares, vec![BEFORE; other]);
+            let two = Opened { number: 2, word: 0 };
+            assert_eq!(open_xor(n, &vec![1; other]), two);
+            assert_eq!(open_sum(n, &vec![1; other]), two);
+        }
+        for other in [0, n, 2 * n - 1, 2 * n + 1] {
+            let mut y = vec![BEFORE; other];
+            assert_eq!(expand(n, &vec![1; n], &mut y, &[]), refused(3));
+            assert_eq!(y, vec![BEFORE; other]);
+        }
+    }
+}
+
+#[test]
+fn hash_calls_are_refused_in_order() {
+    for n in COUNTS {
+        let chain = Chain {
+            shares: random_words(1, 40).try_into().unwrap(),
+        };
+        let key = vec![1; 16 * n];
+        let (message, long) = ([7; 4096], [7; 4097]);
+        for other in [0, 16 * n - 1, 16 * n + 1] {
+            let answer = sha1_compress(n, chain, &vec![1; other], &[]);
+            let expected = Compressed {
+                number: 2,
+                drawn: 0,
+                chain,
+            };
+            assert_eq!(answer, expected);
+            let mut shares = vec![BEFORE; other];
+            assert_eq!(split_key(n, &[1; 64], &mut shares, &[]), refused(3));
+            assert_eq!(split_key(n, &[1; 65], &mut shares, &[]), refused(3));
+            assert_eq!(shares, vec![BEFORE; other]);
+            let mut tag = [0xa5; 19];
+            let wrong_key = vec![1; other];
+            assert_eq!(hmac_sha1(n, &wrong_key, &long, &mut tag, &[]), refused(2));
+            assert_eq!(tag, [0xa5; 19]);
+        }
+        for other in [0, 19, 21] {
+            let mut tag = vec![0xa5; other];
+            assert_eq!(hmac_sha1(n, &key, &long, &mut tag, &[]), refused(3));
+            assert_eq!(hmac_sha1(n, &key, &message, &mut tag, &[]), refused(3));
+            assert_eq!(tag, vec![0xa5; other]);
+        }
+        let mut tag = [0xa5; 20];
+        assert_eq!(hmac_sha1(n, &key, &long, &mut tag, &[]), refused(4));
+        assert_eq!(tag, [0xa5; 20]);
+        let mut shares = vec![BEFORE; 16 * n];
+        assert_eq!(split_key(n, &[1; 65], &mut shares, &[]), refused(4));
+        assert_eq!(shares, vec![BEFORE; 16 * n]);
+    }
+}
+
+#[test]
+fn share_counts_are_refused_first() {
+    for n in WRONG_COUNTS {
+        for length in [0, 1, 3, 16] {
+            for (query, call) in calls(n, length, length, length) {
+                assert_eq!(query, refused(1));
+                assert_eq!(call(&[]), (refused(1), vec![BEFORE; length]));
+            }
+            let x = vec![1; length];
+            let mut y = vec![BEFORE; length];
+            assert_eq!(split(n, 1, &mut y, &[]), refused(1));
+            assert_eq!(expand(n, &x, &mut y, &[]), refused(1));
+            assert_eq!(split_key(n, &[1; 65], &mut y, &[]), refused(1));
+            assert_eq!(y, vec![BEFORE; length]);
+            let mut tag = [0xa5; 19];
+            assert_eq!(hmac_sha1(n, &x, &[7; 4097], &mut tag, &[]), refused(1));
+            assert_eq!(tag, [0xa5; 19]);
+            let one = Opened { number: 1, word: 0 };
+            assert_eq!(open_xor(n, &x), one);
+            assert_eq!(open_sum(n, &x), one);
+            let chain = Chain {
+                shares: random_words(1, 40).try_into().unwrap(),
+            };
+            let expected = Compressed {
+                number: 1,
+                drawn: 0,
+                chain,
+            };
+            assert_eq!(sha1_compress(n, chain, &x, &[]), expected);
+        }
+        assert_eq!(split_words(n), refused(1));
+        assert_eq!(expand_words(n), refused(1));
+        assert_eq!(sha1_compress_words(n), refused(1));
+        assert_eq!(split_key_words(n, 5), refused(1));
+        assert_eq!(split_key_words(n, usize::MAX), refused(1));
+        assert_eq!(hmac_sha1_words(n, 5), refused(1));
+        assert_eq!(hmac_sha1_words(n, usize::MAX), refused(1));
+    }
+}
+
+#[test]
+fn a_refused_compression_hands_the_chain_back() {
+    for n in [2, 4, 8] {
+        let chain = Chain {
+            shares: random_words(1, 40).try_into().unwrap(),
+        };
+        let words = random_words(2, sha1_compress_words(n).drawn - 1);
+        let expected = Compressed {
+            number: 5,
+            drawn: 0,
+            chain,
+        };
+        assert_eq!(sha1_compress(n, chain, &vec![1; 16 * n], &words), expected);
+    }
+}
