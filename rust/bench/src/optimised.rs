@@ -1,5 +1,4 @@
-//! The same steps in optimised Rust: arrays of N shares, so that the compiler knows every length
-//! and unrolls every loop.
+//! The same steps in optimised Rust: arrays of N shares, so that the compiler knows every length.
 
 /// The words lent, and the place of the next unused one.
 pub struct Supply<'a> {
@@ -8,7 +7,7 @@ pub struct Supply<'a> {
 }
 
 impl Supply<'_> {
-    /// The next N words.
+    /// The next words, as many as asked for.
     #[inline(always)]
     fn draw(&mut self, count: usize) -> &[u32] {
         let drawn = &self.words[self.place..self.place + count];
