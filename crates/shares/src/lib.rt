@@ -4,7 +4,7 @@ ghost use mathlib.Core.Bool.{true};
 ghost use mathlib.Core.List.{[], _∷_, _++_, map};
 ghost use Prim.Native.Nat.{_+_, _-_, _*_, _≤_, _<_};
 ghost use lib.Bits.{bitXor, bitAnd};
-ghost use lib.ListN.{length, getD};
+ghost use lib.ListN.{length};
 ghost use lib.Seq.{sets};
 ghost use Rattle.words.specs.Word.{minus};
 ghost use Rattle.rules.specs.Supply.{opened, openedSum, next, split};
@@ -12,18 +12,11 @@ ghost use Rattle.rules.specs.Numbers.{largest, allowed};
 ghost use Rattle.rules.specs.Shares.{each, pass, along, mix, refresh, expand, cross, and, doubleXor, carries, add};
 ghost use Rattle.rules.specs.Convert.{toBool, toArith};
 ghost use Rattle.rules.specs.Counts.{refreshDraws, andDraws, addDraws, toBoolDraws, toArithDraws};
+use supply::draw_at;
 use veil::held;
 
 // The largest share count: room for shares is made for so many.
 const LARGEST: usize = 8;
-
-// The word at a place of the supply. Every draw of the library is this one.
-pub fn draw(words: &[u32], at: usize) -> u32
-    requires { ⌜ at < length (now words) ⌝ }
-    ensures { λ s. ⌜ s ≡ getD (now (words .entry)) at 0 ⌝ }
-{
-    words[at]
-}
 
 // y becomes x.
 pub fn copy(x: &[u32], y: &mut [u32])
@@ -116,8 +109,9 @@ pub fn refresh_at(y: &mut [u32], words: &[u32], at: usize) -> usize
     let mut p = at;
     let mut i = 0;
     while i < last {
-        mix_at(i, last, draw(words, p), y);
-        p += 1;
+        let s = draw_at(words, p);
+        mix_at(i, last, s.word, y);
+        p = s.at;
         i += 1;
     }
     p
@@ -131,10 +125,10 @@ pub fn expand_at(x: &[u32], y: &mut [u32], words: &[u32], at: usize) -> usize
     let mut p = at;
     let mut i = 0;
     while i < x.len() {
-        let s = draw(words, p);
-        y[i * 2] = x[i] ^ s;
-        y[i * 2 + 1] = s;
-        p += 1;
+        let s = draw_at(words, p);
+        y[i * 2] = x[i] ^ s.word;
+        y[i * 2 + 1] = s.word;
+        p = s.at;
         i += 1;
     }
     p
@@ -147,12 +141,11 @@ fn crossed(zj: u32, s: u32, xi: u32, yj: u32, xj: u32, yi: u32, words: &[u32]) -
     zj ^ held(held(s ^ (xi & yj), words) ^ (xj & yi), words)
 }
 
-// One draw of the AND, for the pair i < j.
-fn cross_at(i: usize, j: usize, x: &[u32], y: &[u32], z: &mut [u32], words: &[u32], at: usize)
-    requires { ⌜ (i < length (now x)) × (j < length (now x)) × (length (now y) ≡ length (now x)) × (length (now z) ≡ length (now x)) × (at < length (now words)) ⌝ }
-    ensures { λ _. ⌜ now (z .exit) ≡ cross (now (x .entry)) (now (y .entry)) i j (getD (now (words .entry)) at 0) (now (z .entry)) ⌝ }
+// One draw of the AND: the word s comes in for the pair i < j.
+fn cross_at(i: usize, j: usize, s: u32, x: &[u32], y: &[u32], z: &mut [u32], words: &[u32])
+    requires { ⌜ (i < length (now x)) × (j < length (now x)) × (length (now y) ≡ length (now x)) × (length (now z) ≡ length (now x)) ⌝ }
+    ensures { λ _. ⌜ now (z .exit) ≡ cross (now (x .entry)) (now (y .entry)) i j s (now (z .entry)) ⌝ }
 {
-    let s = draw(words, at);
     z[i] = z[i] ^ s;
     z[j] = crossed(z[j], s, x[i], y[j], x[j], y[i], words);
 }
@@ -165,8 +158,9 @@ fn and_row(i: usize, x: &[u32], y: &[u32], z: &mut [u32], words: &[u32], at: usi
     let mut p = at;
     let mut j = i + 1;
     while j < x.len() {
-        cross_at(i, j, x, y, z, words, p);
-        p += 1;
+        let s = draw_at(words, p);
+        cross_at(i, j, s.word, x, y, z, words);
+        p = s.at;
         j += 1;
     }
     p
@@ -254,8 +248,9 @@ fn draw_each(z: &mut [u32], words: &[u32], at: usize) -> usize
     let mut p = at;
     let mut i = 0;
     while i < z.len() {
-        z[i] = draw(words, p);
-        p += 1;
+        let s = draw_at(words, p);
+        z[i] = s.word;
+        p = s.at;
         i += 1;
     }
     p

@@ -21,14 +21,15 @@ loop-holds c = (search needs, search needs, search needs, refl)
 
 loop-again : tie.Need-loop-again Inv-loop μ-loop
 loop-again c =
-    let l = c .before .before .before .before .before .loop in
-    let s = c .before .before .cross-at in
-    let a = c .before .before .before .before .before .before .before .before .before .before .args in
+    let l = c .before .before .before .before .before .before .loop in
+    let z = c .before .before .cross-at in
+    let s = c .before .before .before .before .draw-at in
+    let a = c .before .before .before .before .before .before .before .before .before .before .before .args in
     let n = length (a .x .now) in (
       search needs,
       search needs,
       search needs,
-      rw (s .ensures) (along-next _ _ _ (l .p) _ (n - l .j) (n - (l .j + 1)) (a .i) (l .j) (omega arith) (l .inv .3)),
+      rw (z .ensures, s .ensures .0, s .ensures .1) (along-next _ _ _ (l .p) _ (n - l .j) (n - (l .j + 1)) (a .i) (l .j) (omega arith) (l .inv .3)),
     )
 
 returns : tie.Need-returns Inv-loop μ-loop
@@ -43,7 +44,7 @@ and-row-spec =
     (λ c. search needs)
     loop-holds
     (λ c κs. search needs)
-    (λ c. search needs)
+    (λ c κs. search needs)
     (λ c. search needs)
     (λ c. search needs)
     loop-again

@@ -3,13 +3,12 @@ use Rattle.shares.proofs.cross_at.Statement.{statement}
 use Rattle.shares.proofs.cross_at.Tie as tie
 
 returns : tie.Need-returns
-returns c = rw (c .crossed .ensures, c .before .before .before .before .before .before .before .draw .ensures)
+returns c = rw (c .crossed .ensures)
 
 pub cross-at-spec : {M : Type 1} → statement M
 cross-at-spec =
     tie.close
     (tie.spec
-    (λ c κs. search needs)
     (λ c. search needs)
     (λ c. search needs)
     (λ c. search needs)

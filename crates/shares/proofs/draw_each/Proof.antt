@@ -23,7 +23,7 @@ loop-again c =
     let a = c .before .before .before .before .before .args in
     let n = length (a .z .now) in
     let l = c .before .before .loop in
-    let drawn = c .draw .ensures ∙ ap (λ q. getD (a .words .now) q 0) (l .inv .2) ∙ sym (next-at (a .words .now) n (a .at) (l .i) (omega arith)) in (
+    let drawn = c .draw-at .ensures .0 ∙ ap (λ q. getD (a .words .now) q 0) (l .inv .2) ∙ sym (next-at (a .words .now) n (a .at) (l .i) (omega arith)) in (
       search needs,
       search needs,
       search needs,
@@ -46,7 +46,6 @@ draw-each-spec =
     μ-loop
     loop-holds
     (λ c κs. search needs)
-    (λ c. search needs)
     (λ c. search needs)
     (λ c. search needs)
     (λ c. search needs)

@@ -22,13 +22,14 @@ loop-holds c = (search needs, refl, search needs, refl, refl)
 
 loop-again : tie.Need-loop-again Inv-loop μ-loop
 loop-again c =
-    let l = c .before .before .before .loop in
-    let a = c .before .before .before .before .before .before .before .args in (
+    let l = c .before .before .before .before .loop in
+    let s = c .before .before .draw-at in
+    let a = c .before .before .before .before .before .before .before .before .args in (
       search needs,
       search needs,
       search needs,
-      rw (c .before .draw .ensures) (expand-next (a .x .now) (a .words .now) (l .y) _ (l .i) (l .p) (omega arith) (omega arith) (l .inv .3)),
-      expand-place-next (a .x .now) (a .words .now) (l .i) (l .p) _ (omega arith) (l .inv .4),
+      rw (s .ensures .0, s .ensures .1) (expand-next (a .x .now) (a .words .now) (l .y) _ (l .i) (l .p) (omega arith) (omega arith) (l .inv .3)),
+      rw (s .ensures .1) (expand-place-next (a .x .now) (a .words .now) (l .i) (l .p) _ (omega arith) (l .inv .4)),
     )
 
 returns : tie.Need-returns Inv-loop μ-loop
@@ -54,7 +55,6 @@ expand-at-spec =
     (λ c. search needs)
     (λ c. search needs)
     (λ c. simp length-set (omega arith))
-    (λ c. search needs)
     (λ c. search needs)
     (λ c. search needs)
     loop-again

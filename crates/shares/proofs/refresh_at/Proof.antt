@@ -24,12 +24,12 @@ loop-again : tie.Need-loop-again Inv-loop μ-loop
 loop-again c =
     let l = c .before .before .before .before .before .before .loop in
     let m = c .before .before .mix-at in
-    let s = c .before .before .before .before .draw in
+    let s = c .before .before .before .before .draw-at in
     let last = length (c .before .before .before .before .before .before .before .before .before .args .y .now) - 1 in (
       search needs,
       search needs,
       search needs,
-      rw (m .ensures, s .ensures) (column-next mix _ _ (l .p) _ last (last - l .i) (last - (l .i + 1)) (l .i) (omega arith) (l .inv .3)),
+      rw (m .ensures, s .ensures .0, s .ensures .1) (column-next mix _ _ (l .p) _ last (last - l .i) (last - (l .i + 1)) (l .i) (omega arith) (l .inv .3)),
     )
 
 returns : tie.Need-returns Inv-loop μ-loop
@@ -45,7 +45,6 @@ refresh-at-spec =
     loop-holds
     (λ c κs. search needs)
     (λ c κs. search needs)
-    (λ c. search needs)
     (λ c. search needs)
     (λ c. search needs)
     loop-again
