@@ -394,7 +394,7 @@ pub extern "C" fn flamivorse_a2b(n: usize, a: &[u32], x: &mut [u32], words: &[u3
     if number != DONE {
         return refusal(number);
     }
-    done(shares::to_bool(a, x, words, 0))
+    done(convert::to_bool(a, x, words, 0))
 }
 
 // Arithmetic shares a of what the Boolean shares x open to.
@@ -413,7 +413,7 @@ pub extern "C" fn flamivorse_b2a(n: usize, x: &[u32], a: &mut [u32], words: &[u3
     if number != DONE {
         return refusal(number);
     }
-    done(shares::to_arith(x, a, words, 0))
+    done(convert::to_arith(x, a, words, 0))
 }
 
 // ---- SHA-1 and HMAC

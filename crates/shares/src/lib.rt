@@ -16,7 +16,7 @@ use supply::draw_at;
 use veil::held;
 
 // The largest share count: room for shares is made for so many.
-const LARGEST: usize = 8;
+pub const LARGEST: usize = 8;
 
 // y becomes x.
 pub fn copy(x: &[u32], y: &mut [u32])
@@ -241,7 +241,7 @@ pub fn open_sum(a: &[u32]) -> u32
 }
 
 // z becomes the next words, from the one at `at` on; the place after.
-fn draw_each(z: &mut [u32], words: &[u32], at: usize) -> usize
+pub fn draw_each(z: &mut [u32], words: &[u32], at: usize) -> usize
     requires { ⌜ at + length (now z) ≤ length (now words) ⌝ }
     ensures { λ r. ⌜ next (length (now (z .entry))) (now (words .entry)) at ≡ (now (z .exit), r) ⌝ }
 {
@@ -267,66 +267,4 @@ pub fn split_at(value: u32, shares: &mut [u32], words: &[u32], at: usize) -> usi
     let mask = open_xor(masks);
     shares[last] = value ^ mask;
     p
-}
-
-// Arithmetic to Boolean, from the word at `at` on; the place after. It calls itself on the half slices: the share count falls.
-pub fn to_bool(a: &[u32], x: &mut [u32], words: &[u32], at: usize) -> usize
-    requires { ⌜ (allowed (length (now a)) ≡ true) × (length (now x) ≡ length (now a)) × (at + toBoolDraws (addDraws 32) (length (now a)) ≤ length (now words)) ⌝ }
-    ensures { λ r. ⌜ (toBool (add 32) (now (a .entry)) (now (words .entry)) at ≡ (now (x .exit), r)) × (r ≡ at + toBoolDraws (addDraws 32) (length (now (a .entry)))) ⌝ }
-{
-    let n = a.len();
-    if n == 1 {
-        copy(a, x);
-        return at;
-    }
-    let h = n / 2;
-    let left = &a[0..h];
-    let right = &a[h..n];
-    let mut b0 = [0u32; LARGEST];
-    let mut l0 = [0u32; LARGEST];
-    let mut r0 = [0u32; LARGEST];
-    let b = &mut b0[0..h];
-    let l = &mut l0[0..n];
-    let r = &mut r0[0..n];
-    let p = to_bool(left, b, words, at);
-    let q = expand_at(b, l, words, p);
-    let s = to_bool(right, b, words, q);
-    let t = expand_at(b, r, words, s);
-    add_at(l, r, x, words, t)
-}
-
-// m becomes −a1, −a2, .., 0.
-fn negate_each(a: &[u32], m: &mut [u32])
-    requires { ⌜ length (now m) ≡ length (now a) + 1 ⌝ }
-    ensures { λ _. ⌜ now (m .exit) ≡ map (minus 32 0) (now (a .entry)) ++ (0 ∷ []) ⌝ }
-{
-    let mut i = 0;
-    while i < a.len() {
-        m[i] = std::num::wrapping_sub_u32(0, a[i]);
-        i += 1;
-    }
-    m[i] = 0;
-}
-
-// Boolean to arithmetic, from the word at `at` on; the place after.
-pub fn to_arith(x: &[u32], a: &mut [u32], words: &[u32], at: usize) -> usize
-    requires { ⌜ (allowed (length (now x)) ≡ true) × (length (now a) ≡ length (now x)) × (at + toArithDraws (addDraws 32) refreshDraws (length (now x)) ≤ length (now words)) ⌝ }
-    ensures { λ r. ⌜ toArith 32 (add 32) refresh (now (x .entry)) (now (words .entry)) at ≡ (now (a .exit), r) ⌝ }
-{
-    let n = x.len();
-    let last = n - 1;
-    let mut m0 = [0u32; LARGEST];
-    let mut b0 = [0u32; LARGEST];
-    let mut s0 = [0u32; LARGEST];
-    let m = &mut m0[0..n];
-    let b = &mut b0[0..n];
-    let s = &mut s0[0..n];
-    let front = &mut a[0..last];
-    let p = draw_each(front, words, at);
-    negate_each(front, m);
-    let q = to_bool(m, b, words, p);
-    let r = add_at(x, b, s, words, q);
-    let e = refresh_at(s, words, r);
-    a[last] = open_xor(s);
-    e
 }

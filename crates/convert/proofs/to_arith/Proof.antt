@@ -12,8 +12,8 @@ use Rattle.rules.specs.Shares.{add, refresh}
 use Rattle.rules.specs.Counts.{addDraws, toBoolDraws}
 use Rattle.rules.proofs.Allowed.{within}
 use Rattle.rules.proofs.Loops.{next-place, add-place, toArith-made}
-use Rattle.shares.proofs.to_arith.Statement.{statement}
-use Rattle.shares.proofs.to_arith.Tie as tie
+use Rattle.convert.proofs.to_arith.Statement.{statement}
+use Rattle.convert.proofs.to_arith.Tie as tie
 
 draw-each-requires : tie.Need-draw-each-requires
 draw-each-requires c κs =

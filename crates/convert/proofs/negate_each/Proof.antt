@@ -8,8 +8,8 @@ use mathlib.Core.List.{map}
 use Rattle.words.specs.Word.{minus}
 use Rattle.words.proofs.Words.{minus-of}
 use Rattle.rules.proofs.Loops.{negatives-next, negatives-end}
-use Rattle.shares.proofs.negate_each.Statement.{statement}
-use Rattle.shares.proofs.negate_each.Tie as tie
+use Rattle.convert.proofs.negate_each.Statement.{statement}
+use Rattle.convert.proofs.negate_each.Tie as tie
 
 abbrev Inv-loop : tie.InvT-loop
 Inv-loop a m₀ i₀ m i = (i ≤ length a) × (length m ≡ length a + 1) × (take i m ≡ take i (map (minus 32 0) a ++ (0 ∷ [])))

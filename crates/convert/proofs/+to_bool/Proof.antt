@@ -15,14 +15,14 @@ use Rattle.rules.specs.Counts.{addDraws, toBoolDraws}
 use Rattle.rules.proofs.Conversion.{toBool-one, draws-one}
 use Rattle.rules.proofs.Allowed.{halves}
 use Rattle.rules.proofs.Loops.{expand-place, add-place, toBool-made}
-use Rattle.shares.proofs.to_bool.Reads as to-bool
-use Rattle.shares.proofs.to_bool.Kinds as to-bool-kinds
-use Rattle.shares.proofs.+to_bool.Lts-to_bool as to-bool-lts
+use Rattle.convert.proofs.to_bool.Reads as to-bool
+use Rattle.convert.proofs.to_bool.Kinds as to-bool-kinds
+use Rattle.convert.proofs.+to_bool.Lts-to_bool as to-bool-lts
 use Rattle.shares.proofs.add_at.Reads as add-at-reads
 use Rattle.shares.proofs.copy.Reads as copy-reads
 use Rattle.shares.proofs.expand_at.Reads as expand-at-reads
-use Rattle.shares.proofs.+to_bool.{statement}
-use Rattle.shares.proofs.+to_bool.Tie.{close}
+use Rattle.convert.proofs.+to_bool.{statement}
+use Rattle.convert.proofs.+to_bool.Tie.{close}
 
 abbrev μ-to-bool : Measures 3 to-bool-kinds.ps ℕ
 μ-to-bool κs a = length (a .0 .now)
