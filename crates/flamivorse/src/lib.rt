@@ -2,7 +2,7 @@
 ghost use mathlib.Core.Path.{_≡_};
 ghost use mathlib.Core.Bool.{true};
 ghost use mathlib.Core.List.{[], _∷_};
-ghost use Prim.Native.Nat.{_+_, _-_, _*_, _≤_, _<_};
+ghost use Prim.Native.Nat.{_+_, _-_, _*_, _≤_};
 ghost use lib.Dec.{eqb, leb};
 ghost use Rattle.rules.specs.Numbers.{longestMessage, both, allowed, test, first};
 ghost use Rattle.rules.specs.Counts.{refreshDraws, andDraws, addDraws, toBoolDraws, toArithDraws, compressDraws, hmacDraws};
@@ -298,11 +298,13 @@ pub extern "C" fn flamivorse_refresh(n: usize, x: &[u32], y: &mut [u32], words: 
     done(shares::refresh_at(y, words, 0))
 }
 
-// Whether a length is m times n, for any n.
+// Whether a length is m times n, a product that need not fit into a usize.
 fn is_times(length: usize, m: usize, n: usize) -> bool
-    requires { ⌜ 0 < m ⌝ }
     ensures { λ r. ⌜ r ≡ eqb length (m * n) ⌝ }
 {
+    if m == 0 {
+        return length == 0;
+    }
     if length % m != 0 {
         return false;
     }

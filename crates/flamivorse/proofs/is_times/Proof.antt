@@ -1,8 +1,8 @@
--- a length that m does not divide is no multiple, and of another the quotient tells
+-- of 0 the one multiple is 0; a length that m does not divide is no multiple, and of another the quotient tells
 use Prim.Native.Nat.{ℕ, _*_, _/_, _%_, _<_}
 use mathlib.Core.Path.{_≡_, refl, sym, ap, _∙_}
 use mathlib.Core.Bool.{Bool, true, false}
-use native.Mathlib.Nat.{div-add-mod, mul-mod-right, mul-div-cancel-left, mul-comm}
+use native.Mathlib.Nat.{div-add-mod, mul-mod-right, mul-div-cancel-left, zero-mul}
 use native.Mathlib.Omega.{arith}
 use borrow.Author.Needs.{needs}
 use lib.Dec.{eqb}
@@ -18,10 +18,13 @@ quotient l m n true p h e = e ∙ sym (eq-eqb l (m * n) (whole l m h ∙ ap (λ 
 quotient l m n false p h e = e ∙ sym (ne-eqb l (m * n) (λ q. eqb-false (l / m) n e (rw q (mul-div-cancel-left n p))))
 
 returns : tie.Need-returns
-returns c = let i = c .before .args in sym (ne-eqb (i .length) (i .m * i .n) (λ e. c .if1 .taken (rw e (mul-mod-right (i .m) (i .n)))))
+returns c = rw (c .if1 .taken, zero-mul (c .before .args .n))
 
 returns-2 : tie.Need-returns-2
-returns-2 c = let i = c .before .args in quotient (i .length) (i .m) (i .n) (eqb (i .length / i .m) (i .n)) (c .before .pre) (c .if1 .left) refl
+returns-2 c = let i = c .before .before .args in sym (ne-eqb (i .length) (i .m * i .n) (λ e. c .if2 .taken (rw e (mul-mod-right (i .m) (i .n)))))
+
+returns-3 : tie.Need-returns-3
+returns-3 c = let i = c .before .before .args in quotient (i .length) (i .m) (i .n) (eqb (i .length / i .m) (i .n)) (omega (arith, c .before .if1 .left)) (c .if2 .left) refl
 
 pub is-times-spec : {M : Type 1} → statement M
-is-times-spec = tie.close (tie.spec (λ c. search needs) returns (λ c. search needs) returns-2)
+is-times-spec = tie.close (tie.spec returns (λ c. search needs) returns-2 (λ c. search needs) returns-3)
