@@ -1,14 +1,25 @@
 // The calls that users make. Each takes any arguments at all and says its whole outcome: the answer and every lent buffer afterwards.
 ghost use mathlib.Core.Path.{_≡_};
-ghost use mathlib.Core.Bool.{true};
-ghost use mathlib.Core.List.{[], _∷_};
-ghost use Prim.Native.Nat.{_+_, _-_, _*_, _≤_};
-ghost use lib.Dec.{eqb, leb};
-ghost use Rattle.rules.specs.Numbers.{longestMessage, both, allowed, test, first};
-ghost use Rattle.rules.specs.Counts.{refreshDraws, andDraws, addDraws, toBoolDraws, toArithDraws, compressDraws, hmacDraws};
 ghost use Rattle.rules.specs.Calls.{b2aTwo, a2bTwo, b2aRecordCall, a2bRecordCall, splitCall, openXorCall, openSumCall, refreshCall, expandCall, andCall, addCall, a2bCall, b2aCall};
-ghost use Rattle.rules.specs.Calls.{query, splitWords, refreshWords, expandWords, andWords, addWords, a2bWords, b2aWords};
+ghost use Rattle.rules.specs.Calls.{splitWords, refreshWords, expandWords, andWords, addWords, a2bWords, b2aWords};
 ghost use Rattle.rules.specs.Calls.{splitKeyCall, compressCall, hmacCall, splitKeyWords, compressWords, hmacWords};
+use numbers::DONE;
+use numbers::a2b_draws;
+use numbers::add_draws;
+use numbers::and_draws;
+use numbers::b2a_draws;
+use numbers::both_fit;
+use numbers::compress_draws;
+use numbers::done;
+use numbers::first_number;
+use numbers::hmac_draws;
+use numbers::is_times;
+use numbers::key_draws;
+use numbers::key_fits;
+use numbers::message_fits;
+use numbers::refresh_draws;
+use numbers::refusal;
+use numbers::told;
 use rules::Answer;
 use rules::Chain;
 use rules::Compressed;
@@ -46,174 +57,6 @@ pub extern "C" fn flamivorse_a2b_2_record(a: u32, r: u32, g: u32, entries: &mut 
     ensures { λ number. ⌜ a2bRecordCall 32 a r g (now (entries .entry)) ≡ (number, now (entries .exit)) ⌝ }
 {
     goubin::a2b_record(a, r, g, entries)
-}
-
-// ---- the numbers of section 3
-
-const DONE: u32 = 0;
-
-const WRONG_COUNT: u32 = 1;
-
-const WRONG_INPUT: u32 = 2;
-
-const WRONG_OUTPUT: u32 = 3;
-
-const TOO_LONG: u32 = 4;
-
-const TOO_FEW_WORDS: u32 = 5;
-
-// The longest key given for splitting, and the longest message, in bytes.
-const LONGEST_KEY: usize = 64;
-
-const LONGEST_MESSAGE: usize = 4096;
-
-// The share counts that calls take: 1, 2, 4 and 8.
-fn is_allowed(n: usize) -> bool
-    ensures { λ r. ⌜ r ≡ allowed n ⌝ }
-{
-    if n == 1 {
-        return true;
-    }
-    if n == 2 {
-        return true;
-    }
-    if n == 4 {
-        return true;
-    }
-    n == 8
-}
-
-// Both.
-fn both_fit(a: bool, b: bool) -> bool
-    ensures { λ r. ⌜ r ≡ both a b ⌝ }
-{
-    if a {
-        return b;
-    }
-    false
-}
-
-// The first number that applies: of the share count, the inputs, the output, the text, and the words needed and there.
-fn first_number(n: usize, input: bool, output: bool, text: bool, need: usize, have: usize) -> u32
-    ensures { λ r. ⌜ r ≡ first (test 1 (allowed n) ∷ test 2 input ∷ test 3 output ∷ test 4 text ∷ test 5 (leb need have) ∷ []) ⌝ }
-{
-    let counted = is_allowed(n);
-    let enough = need <= have;
-    if !counted {
-        return WRONG_COUNT;
-    }
-    if !input {
-        return WRONG_INPUT;
-    }
-    if !output {
-        return WRONG_OUTPUT;
-    }
-    if !text {
-        return TOO_LONG;
-    }
-    if !enough {
-        return TOO_FEW_WORDS;
-    }
-    DONE
-}
-
-// A refusal: no word was drawn.
-fn refusal(number: u32) -> Answer
-    ensures { λ r. ⌜ r ≡ record { number = number; drawn = 0 } ⌝ }
-{
-    Answer {
-        number: number,
-        drawn: 0,
-    }
-}
-
-// Done, with so many words.
-fn done(drawn: usize) -> Answer
-    ensures { λ r. ⌜ r ≡ record { number = 0; drawn = drawn } ⌝ }
-{
-    Answer {
-        number: 0,
-        drawn: drawn,
-    }
-}
-
-// ---- how many words are drawn, where the share count is taken; else no matter what
-
-// 0 at one share, and the number given for 2, 4 and 8.
-fn by_count(n: usize, two: usize, four: usize, eight: usize) -> usize
-    ensures { λ r. ⌜ r ≤ two + four + eight ⌝ }
-    ensures { λ r. ⌜ ((n ≡ 1 → r ≡ 0) × (n ≡ 2 → r ≡ two) × (n ≡ 4 → r ≡ four) × (n ≡ 8 → r ≡ eight)) ⌝ }
-{
-    if n == 2 {
-        return two;
-    }
-    if n == 4 {
-        return four;
-    }
-    if n == 8 {
-        return eight;
-    }
-    0
-}
-
-// Splitting and refresh: n − 1.
-fn refresh_draws(n: usize) -> usize
-    ensures { λ r. ⌜ (allowed n ≡ true → refreshDraws n ≡ r) ⌝ }
-{
-    by_count(n, 1, 3, 7)
-}
-
-// AND: n(n − 1)/2.
-fn and_draws(n: usize) -> usize
-    ensures { λ r. ⌜ (allowed n ≡ true → andDraws n ≡ r) ⌝ }
-{
-    by_count(n, 1, 6, 28)
-}
-
-// Addition: 16n(n − 1).
-fn add_draws(n: usize) -> usize
-    ensures { λ r. ⌜ (allowed n ≡ true → addDraws 32 n ≡ r) ⌝ }
-{
-    by_count(n, 32, 192, 896)
-}
-
-// Arithmetic to Boolean: W(n).
-fn a2b_draws(n: usize) -> usize
-    ensures { λ r. ⌜ (allowed n ≡ true → toBoolDraws (addDraws 32) n ≡ r) ⌝ }
-{
-    by_count(n, 34, 264, 1432)
-}
-
-// Boolean to arithmetic: 2(n − 1) + W(n) + 16n(n − 1).
-fn b2a_draws(n: usize) -> usize
-    ensures { λ r. ⌜ (allowed n ≡ true → toArithDraws (addDraws 32) refreshDraws n ≡ r) ⌝ }
-{
-    by_count(n, 68, 462, 2342)
-}
-
-// Splitting a key: 16(n − 1).
-fn key_draws(n: usize) -> usize
-    ensures { λ r. ⌜ (allowed n ≡ true → 16 * (n - 1) ≡ r) ⌝ }
-{
-    by_count(n, 16, 48, 112)
-}
-
-// One compression: 5,220n(n − 1).
-fn compress_draws(n: usize) -> usize
-    ensures { λ r. ⌜ r ≤ 365400 ⌝ }
-    ensures { λ r. ⌜ (allowed n ≡ true → compressDraws 32 n ≡ r) ⌝ }
-{
-    by_count(n, 10440, 62640, 292320)
-}
-
-// HMAC of a message of so many bytes: floor((length + 8)/64) + 4 compressions.
-fn hmac_draws(n: usize, length: usize) -> usize
-    ensures { λ r. ⌜ (allowed n ≡ true → leb length longestMessage ≡ true → hmacDraws 32 n length ≡ r) ⌝ }
-{
-    if LONGEST_MESSAGE < length {
-        return 0;
-    }
-    ((length + 8) / 64 + 4) * compress_draws(n)
 }
 
 // ---- n shares
@@ -296,19 +139,6 @@ pub extern "C" fn flamivorse_refresh(n: usize, x: &[u32], y: &mut [u32], words: 
     }
     shares::copy(x, y);
     done(shares::refresh_at(y, words, 0))
-}
-
-// Whether a length is m times n, a product that need not fit into a usize.
-fn is_times(length: usize, m: usize, n: usize) -> bool
-    ensures { λ r. ⌜ r ≡ eqb length (m * n) ⌝ }
-{
-    if m == 0 {
-        return length == 0;
-    }
-    if length % m != 0 {
-        return false;
-    }
-    length / m == n
 }
 
 // 2n shares y of what the n shares x open to.
@@ -434,7 +264,7 @@ pub extern "C" fn flamivorse_split_key(
         n,
         true,
         is_times(shares.len(), 16, n),
-        key.len() <= LONGEST_KEY,
+        key_fits(key.len()),
         key_draws(n),
         words.len(),
     );
@@ -493,7 +323,7 @@ pub extern "C" fn flamivorse_hmac_sha1(
         n,
         is_times(key.len(), 16, n),
         tag.len() == 20,
-        message.len() <= LONGEST_MESSAGE,
+        message_fits(message.len()),
         hmac_draws(n, message.len()),
         words.len(),
     );
@@ -504,17 +334,6 @@ pub extern "C" fn flamivorse_hmac_sha1(
 }
 
 // ---- how many words a call will draw
-
-// The count, where n shares are taken and the text is not too long.
-fn told(n: usize, fits: bool, drawn: usize) -> Answer
-    ensures { λ r. ⌜ query (test 1 (allowed n) ∷ test 4 fits ∷ []) drawn ≡ r ⌝ }
-{
-    let number = first_number(n, true, true, fits, 0, 0);
-    if number != DONE {
-        return refusal(number);
-    }
-    done(drawn)
-}
 
 #[no_mangle]
 pub extern "C" fn flamivorse_split_words(n: usize) -> Answer
@@ -569,7 +388,7 @@ pub extern "C" fn flamivorse_b2a_words(n: usize) -> Answer
 pub extern "C" fn flamivorse_split_key_words(n: usize, length: usize) -> Answer
     ensures { λ r. ⌜ splitKeyWords n length ≡ r ⌝ }
 {
-    told(n, length <= LONGEST_KEY, key_draws(n))
+    told(n, key_fits(length), key_draws(n))
 }
 
 #[no_mangle]
@@ -583,5 +402,5 @@ pub extern "C" fn flamivorse_sha1_compress_words(n: usize) -> Answer
 pub extern "C" fn flamivorse_hmac_sha1_words(n: usize, length: usize) -> Answer
     ensures { λ r. ⌜ hmacWords 32 n length ≡ r ⌝ }
 {
-    told(n, length <= LONGEST_MESSAGE, hmac_draws(n, length))
+    told(n, message_fits(length), hmac_draws(n, length))
 }

@@ -10,7 +10,7 @@ use Rattle.flamivorse.proofs.flamivorse_hmac_sha1_words.Tie as tie
 
 returns : tie.Need-returns
 unfolding first
-returns c = same-query _ (leb (c .before .before .args .length) longestMessage) _ _ (λ ok fits. c .before .hmac-draws .ensures ok fits) ∙ c .told .ensures
+returns c = same-query _ (leb (c .before .before .before .args .length) longestMessage) _ _ (λ ok fits. c .before .hmac-draws .ensures ok fits) ∙ rw (c .before .before .message-fits .ensures) at (c .told .ensures)
 
 pub flamivorse-hmac-sha1-words-spec : {M : Type 1} → statement M
-flamivorse-hmac-sha1-words-spec = tie.close (tie.spec (λ c κs. search needs) (λ c κs. search needs) returns)
+flamivorse-hmac-sha1-words-spec = tie.close (tie.spec (λ c κs. search needs) (λ c κs. search needs) (λ c κs. search needs) returns)

@@ -2,8 +2,8 @@
 use borrow.Author.Needs.{needs}
 use Rattle.rules.specs.Numbers.{first}
 use Rattle.rules.proofs.Calls.{not-told, was-told}
-use Rattle.flamivorse.proofs.told.Statement.{statement}
-use Rattle.flamivorse.proofs.told.Tie as tie
+use Rattle.numbers.proofs.told.Statement.{statement}
+use Rattle.numbers.proofs.told.Tie as tie
 
 returns : tie.Need-returns
 unfolding first

@@ -5,8 +5,8 @@ use native.Mathlib.Nat.{mul-le-mul}
 use native.Mathlib.Omega.{arith}
 use borrow.Author.Needs.{needs}
 use borrow.Author.Tests.{leb-true}
-use Rattle.flamivorse.proofs.hmac_draws.Statement.{statement}
-use Rattle.flamivorse.proofs.hmac_draws.Tie as tie
+use Rattle.numbers.proofs.hmac_draws.Statement.{statement}
+use Rattle.numbers.proofs.hmac_draws.Tie as tie
 
 returns : tie.Need-returns
 returns c = λ ok fits. absurd (omega (arith, leb-true (c .before .args .length) 4096 fits))

@@ -3,8 +3,8 @@ use mathlib.Core.Path.{refl}
 use borrow.Author.Needs.{needs}
 use Rattle.rules.specs.Counts.{refreshDraws, andDraws, addDraws, toBoolDrawsIn, toBoolDraws, toArithDraws}
 use Rattle.rules.proofs.Allowed.{by-count}
-use Rattle.flamivorse.proofs.b2a_draws.Statement.{statement}
-use Rattle.flamivorse.proofs.b2a_draws.Tie as tie
+use Rattle.numbers.proofs.b2a_draws.Statement.{statement}
+use Rattle.numbers.proofs.b2a_draws.Tie as tie
 
 returns : tie.Need-returns
 unfolding andDraws toBoolDrawsIn toBoolDraws

@@ -5,8 +5,8 @@ use borrow.Author.Needs.{needs}
 use borrow.Author.Tests.{not-true, not-false}
 use lib.Dec.{leb}
 use Rattle.rules.specs.Numbers.{first}
-use Rattle.flamivorse.proofs.first_number.Statement.{statement}
-use Rattle.flamivorse.proofs.first_number.Tie as tie
+use Rattle.numbers.proofs.first_number.Statement.{statement}
+use Rattle.numbers.proofs.first_number.Tie as tie
 
 returns : tie.Need-returns
 unfolding first

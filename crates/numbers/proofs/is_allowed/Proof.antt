@@ -1,8 +1,8 @@
 -- the counts, one after the other
 use Rattle.rules.specs.Numbers.{allowed}
 use Rattle.rules.proofs.Allowed.{allowed-last}
-use Rattle.flamivorse.proofs.is_allowed.Statement.{statement}
-use Rattle.flamivorse.proofs.is_allowed.Tie as tie
+use Rattle.numbers.proofs.is_allowed.Statement.{statement}
+use Rattle.numbers.proofs.is_allowed.Tie as tie
 
 returns : tie.Need-returns
 unfolding allowed

@@ -3,8 +3,8 @@ use Prim.Native.Nat.{_-_, _*_}
 use mathlib.Core.Path.{refl}
 use borrow.Author.Needs.{needs}
 use Rattle.rules.proofs.Allowed.{by-count}
-use Rattle.flamivorse.proofs.key_draws.Statement.{statement}
-use Rattle.flamivorse.proofs.key_draws.Tie as tie
+use Rattle.numbers.proofs.key_draws.Statement.{statement}
+use Rattle.numbers.proofs.key_draws.Tie as tie
 
 returns : tie.Need-returns
 returns c = by-count (λ n. 16 * (n - 1)) (c .before .args .n) (c .by-count .result) 16 48 112 refl refl refl refl (c .by-count .ensures .1)

@@ -7,8 +7,8 @@ use native.Mathlib.Omega.{arith}
 use borrow.Author.Needs.{needs}
 use lib.Dec.{eqb}
 use borrow.Author.Tests.{eqb-true, eqb-false, eq-eqb, ne-eqb}
-use Rattle.flamivorse.proofs.is_times.Statement.{statement}
-use Rattle.flamivorse.proofs.is_times.Tie as tie
+use Rattle.numbers.proofs.is_times.Statement.{statement}
+use Rattle.numbers.proofs.is_times.Tie as tie
 
 whole : (l m : ℕ) → l % m ≡ 0 → l ≡ m * (l / m)
 whole l m h = omega (arith, div-add-mod l m)

@@ -3,8 +3,8 @@ use mathlib.Core.Path.{refl}
 use borrow.Author.Needs.{needs}
 use Rattle.rules.specs.Counts.{andDraws, addDraws}
 use Rattle.rules.proofs.Allowed.{by-count}
-use Rattle.flamivorse.proofs.add_draws.Statement.{statement}
-use Rattle.flamivorse.proofs.add_draws.Tie as tie
+use Rattle.numbers.proofs.add_draws.Statement.{statement}
+use Rattle.numbers.proofs.add_draws.Tie as tie
 
 returns : tie.Need-returns
 unfolding andDraws

@@ -3,8 +3,8 @@ use mathlib.Core.Path.{refl}
 use borrow.Author.Needs.{needs}
 use Rattle.rules.specs.Counts.{refreshDraws}
 use Rattle.rules.proofs.Allowed.{by-count}
-use Rattle.flamivorse.proofs.refresh_draws.Statement.{statement}
-use Rattle.flamivorse.proofs.refresh_draws.Tie as tie
+use Rattle.numbers.proofs.refresh_draws.Statement.{statement}
+use Rattle.numbers.proofs.refresh_draws.Tie as tie
 
 returns : tie.Need-returns
 returns c = by-count refreshDraws (c .before .args .n) (c .by-count .result) 1 3 7 refl refl refl refl (c .by-count .ensures .1)

@@ -5,8 +5,8 @@ use borrow.Author.Needs.{needs}
 use Rattle.rules.specs.Counts.{compressDraws}
 use Rattle.rules.proofs.Sizes.{compress-count}
 use Rattle.rules.proofs.Allowed.{by-count}
-use Rattle.flamivorse.proofs.compress_draws.Statement.{statement}
-use Rattle.flamivorse.proofs.compress_draws.Tie as tie
+use Rattle.numbers.proofs.compress_draws.Statement.{statement}
+use Rattle.numbers.proofs.compress_draws.Tie as tie
 
 returns : tie.Need-returns
 returns c = (omega (arith, c .by-count .ensures .0), by-count (compressDraws 32) (c .before .args .n) (c .by-count .result) 10440 62640 292320 (compress-count 1) (compress-count 2) (compress-count 4) (compress-count 8) (c .by-count .ensures .1))
