@@ -1,12 +1,12 @@
 -- Blocks of shared words as the code's loops fill them: one law to a turn and one to the end.
 use Prim.Native.Nat.{ℕ, suc, _+_, _-_, _*_, _/_, _≤_, _<_}
 use mathlib.Core.Path.{_≡_, sym, ap, _∙_}
-use mathlib.Core.List.{List, [], _∷_, _++_, map, append-nil, append-assoc}
+use mathlib.Core.List.{List, [], _∷_, _++_, append-nil, append-assoc}
 use native.Mathlib.Omega.{arith}
 use native.Mathlib.Nat.{mul-le-mul-right, suc-mul, sub-zero, zero-mul}
 use native.Mathlib.Numerals.{add-one}
 use lib.Bits.{bitXor}
-use lib.ListN.{length, getD, set, take, drop, replicate, length-append, length-replicate, length-drop, length-map, replicate-append-replicate, drop-of-length-le}
+use lib.ListN.{length, getD, set, take, drop, replicate, length-append, length-replicate, length-drop, replicate-append-replicate, drop-of-length-le}
 use lib.Seq.{set-at, take-at, drop-at, take-all, take-suc, length-take-le, getD-take, getD-drop}
 use Rattle.words.proofs.Stores.{filled-next, filled-end}
 use Rattle.rules.specs.Standard.{H0, bytesOf, wordsOf, padding}

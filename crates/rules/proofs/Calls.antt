@@ -1,5 +1,5 @@
 -- What the definitions of the calls come to: refused, with what that leaves, or done. And that a promise has one outcome.
-use Prim.Native.Nat.{ℕ, zero, suc, _*_, _+_, _-_, _≤_, _<_}
+use Prim.Native.Nat.{ℕ, zero, suc, _*_, _-_, _≤_, _<_}
 use mathlib.Core.Path.{_≡_, refl, sym, ap, _∙_}
 use mathlib.Core.Bool.{Bool, true, false}
 use mathlib.Core.List.{List, [], _∷_, _++_}

@@ -1,5 +1,5 @@
 -- Sections 2 and 6: a key in shares, and masked HMAC-SHA-1 of a message.
-use Prim.Native.Nat.{ℕ, zero, suc, _+_, _-_, _*_, _/_}
+use Prim.Native.Nat.{ℕ, zero, suc, _+_, _*_, _/_}
 use mathlib.Core.List.{List, [], _∷_, _++_}
 use lib.Bits.{bitXor}
 use lib.ListN.{length, getD, set, take, drop}

@@ -1,17 +1,14 @@
 // The rules for n shares at 32 bits: n is the length of the slices. Each function is proved to be its rule, word for word of the supply.
 ghost use mathlib.Core.Path.{_≡_};
-ghost use mathlib.Core.Bool.{true};
-ghost use mathlib.Core.List.{[], _∷_, _++_, map};
+ghost use mathlib.Core.List.{[]};
 ghost use Prim.Native.Nat.{_+_, _-_, _*_, _≤_, _<_};
 ghost use lib.Bits.{bitXor, bitAnd};
 ghost use lib.ListN.{length};
 ghost use lib.Seq.{sets};
-ghost use Rattle.words.specs.Word.{minus};
 ghost use Rattle.rules.specs.Supply.{opened, openedSum, next, split};
-ghost use Rattle.rules.specs.Numbers.{largest, allowed};
+ghost use Rattle.rules.specs.Numbers.{largest};
 ghost use Rattle.rules.specs.Shares.{each, pass, along, mix, refresh, expand, cross, and, doubleXor, carries, add};
-ghost use Rattle.rules.specs.Convert.{toBool, toArith};
-ghost use Rattle.rules.specs.Counts.{refreshDraws, andDraws, addDraws, toBoolDraws, toArithDraws};
+ghost use Rattle.rules.specs.Counts.{refreshDraws, andDraws, addDraws};
 use supply::draw_at;
 use veil::held;
 

@@ -1,6 +1,5 @@
 -- refused, with what that leaves; or the rule
-use Prim.Native.Nat.{_+_, _*_}
-use mathlib.Core.Path.{_≡_, refl, sym, ap, _∙_}
+use mathlib.Core.Path.{sym, _∙_}
 use mathlib.Core.Bool.{true}
 use native.Mathlib.Nat.{zero-add}
 use native.Mathlib.Omega.{arith}
@@ -8,12 +7,10 @@ use borrow.Author.Needs.{needs}
 use borrow.Author.Tests.{eqb-true}
 use lib.Dec.{eqb}
 use lib.ListN.{length}
-use Rattle.rules.specs.Supply.{split}
-use Rattle.rules.specs.Numbers.{both, first}
-use Rattle.rules.specs.Shares.{refresh, expand, and, add}
-use Rattle.rules.specs.Convert.{toBool, toArith}
-use Rattle.rules.proofs.Allowed.{within}
-use Rattle.rules.proofs.Calls.{refused, done, passed, both-true, split-draws, refresh-draws, expand-draws, and-draws, add-draws, toBool-draws, toArith-draws}
+use Rattle.rules.specs.Numbers.{first}
+use Rattle.rules.specs.Shares.{refresh, add}
+use Rattle.rules.specs.Convert.{toArith}
+use Rattle.rules.proofs.Calls.{refused, done, passed, toArith-draws}
 use Rattle.flamivorse.proofs.flamivorse_b2a.Statement.{statement}
 use Rattle.flamivorse.proofs.flamivorse_b2a.Tie as tie
 

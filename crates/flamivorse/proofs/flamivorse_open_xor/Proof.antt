@@ -1,6 +1,6 @@
 -- refused by 1 or 2, or opened
 use borrow.Author.Needs.{needs}
-use Rattle.rules.specs.Supply.{opened, openedSum}
+use Rattle.rules.specs.Supply.{opened}
 use Rattle.rules.specs.Numbers.{first}
 use Rattle.rules.proofs.Calls.{not-opened, was-opened}
 use Rattle.flamivorse.proofs.flamivorse_open_xor.Statement.{statement}

@@ -7,7 +7,7 @@ use borrow.Author.Needs.{needs}
 use borrow.Author.Tests.{eqb-true}
 use lib.Dec.{eqb}
 use lib.ListN.{length}
-use Rattle.rules.specs.Numbers.{allowed, first}
+use Rattle.rules.specs.Numbers.{allowed}
 use Rattle.rules.specs.Shares.{add}
 use Rattle.rules.specs.Sha1.{compress, used}
 use Rattle.rules.proofs.Allowed.{within}

@@ -2,8 +2,7 @@
 use mathlib.Core.Path.{_∙_}
 use mathlib.Core.Bool.{true}
 use borrow.Author.Needs.{needs}
-use lib.Dec.{leb}
-use Rattle.rules.specs.Numbers.{first, longestKey, longestMessage}
+use Rattle.rules.specs.Numbers.{first}
 use Rattle.rules.proofs.Calls.{same-query}
 use Rattle.flamivorse.proofs.flamivorse_sha1_compress_words.Statement.{statement}
 use Rattle.flamivorse.proofs.flamivorse_sha1_compress_words.Tie as tie

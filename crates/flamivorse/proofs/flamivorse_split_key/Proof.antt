@@ -1,17 +1,16 @@
 -- refused, with what that leaves; or the rule
 use Prim.Native.Nat.{_*_}
-use mathlib.Core.Path.{_≡_, refl, _∙_}
+use mathlib.Core.Path.{_∙_}
 use mathlib.Core.Bool.{true}
 use native.Mathlib.Nat.{zero-add}
 use borrow.Author.Needs.{needs}
 use borrow.Author.Tests.{eqb-true, leb-true}
 use lib.Dec.{eqb, leb}
 use lib.ListN.{length}
-use Rattle.rules.specs.Numbers.{longestKey, longestMessage, first}
-use Rattle.rules.specs.Shares.{add}
-use Rattle.rules.specs.Hmac.{splitKey, hmacTag}
+use Rattle.rules.specs.Numbers.{longestKey, first}
+use Rattle.rules.specs.Hmac.{splitKey}
 use Rattle.rules.proofs.Allowed.{within}
-use Rattle.rules.proofs.Calls.{refused, done, passed, splitKey-draws, hmacTag-draws}
+use Rattle.rules.proofs.Calls.{refused, done, passed, splitKey-draws}
 use Rattle.flamivorse.proofs.flamivorse_split_key.Statement.{statement}
 use Rattle.flamivorse.proofs.flamivorse_split_key.Tie as tie
 

@@ -1,5 +1,4 @@
 -- the numbers told are what the rule draws
-use mathlib.Core.Path.{_≡_, refl}
 use native.Mathlib.Omega.{arith}
 use borrow.Author.Needs.{needs}
 use Rattle.rules.specs.Counts.{compressDraws}

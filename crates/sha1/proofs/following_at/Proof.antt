@@ -1,9 +1,7 @@
 use borrow.Author.Needs.{needs}
 use native.Mathlib.Omega.{arith}
-use Prim.Native.Nat.{ℕ, zero, suc, _+_, _-_, _*_, _/_, _≤_, _<_}
-use mathlib.Core.Path.{_≡_, refl, sym, ap, _∙_}
-use mathlib.Core.List.{List, [], _∷_, _++_}
-use lib.ListN.{length, getD, set, take, drop, length-set}
+use Prim.Native.Nat.{_-_, _*_, _≤_}
+use lib.ListN.{length}
 use native.Mathlib.Nat.{mul-le-mul-right, suc-mul}
 use Rattle.sha1.proofs.Parts.{following-made, word-room}
 use Rattle.sha1.proofs.following_at.Statement.{statement}

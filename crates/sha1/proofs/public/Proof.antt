@@ -1,12 +1,10 @@
 use borrow.Author.Needs.{needs}
 use native.Mathlib.Omega.{arith}
-use Prim.Native.Nat.{ℕ, zero, suc, _+_, _-_, _*_, _/_, _≤_, _<_}
+use Prim.Native.Nat.{ℕ, _-_, _≤_}
 use mathlib.Core.Path.{_≡_, refl, sym, ap, _∙_}
-use mathlib.Core.List.{List, [], _∷_, _++_}
-use lib.ListN.{length, getD, set, take, drop, length-set}
+use lib.ListN.{length, take, length-set}
 use lib.ListN.{replicate, length-replicate, getD-replicate}
 use Rattle.words.proofs.Stores.{filled-next, filled-end}
-use Rattle.rules.specs.Sha1.{public}
 use Rattle.sha1.proofs.Parts.{public-made}
 use Rattle.sha1.proofs.public.Statement.{statement}
 use Rattle.sha1.proofs.public.Tie as tie

@@ -1,11 +1,9 @@
 use borrow.Author.Needs.{needs}
 use native.Mathlib.Omega.{arith}
-use Prim.Native.Nat.{ℕ, zero, suc, _+_, _-_, _*_, _/_, _≤_, _<_}
-use mathlib.Core.Path.{_≡_, refl, sym, ap, _∙_}
-use mathlib.Core.List.{List, [], _∷_, _++_}
-use lib.ListN.{length, getD, set, take, drop, length-set}
+use Prim.Native.Nat.{_+_}
+use mathlib.Core.Path.{sym, ap, _∙_}
 use mathlib.Core.Logic.{inl, inr}
-use Rattle.rules.specs.Counts.{quarterAnds, andDraws}
+use Rattle.rules.specs.Counts.{andDraws}
 use Rattle.sha1.proofs.Parts.{parity-made, ands-one, ands-none}
 use Rattle.sha1.proofs.quarter.Statement.{statement}
 use Rattle.sha1.proofs.quarter.Tie as tie
