@@ -82,9 +82,6 @@ pub settled-refused : {A : Type 0} (number : ℕ) (done came : A) → (number �
 settled-refused zero done came h = absurd (h refl)
 settled-refused (suc number) done came h = refl
 
-pub settled-done : {A : Type 0} (number : ℕ) (done came : A) → number ≡ 0 → settled number done came ≡ done
-settled-done number done came h = rw h
-
 module _ (n : ℕ) (a b c : Bool) (need : ℕ) (rule : Draw (List ℕ)) (came ws : List ℕ) (number : ℕ) (answer : Answer)
     (is : number ≡ first (tests n a b c ++ (test 5 (leb need (length ws)) ∷ [])))
     (draws : allowed n ≡ true → a ≡ true → b ≡ true → c ≡ true → rule ws 0 .1 ≡ need) where

@@ -1,5 +1,5 @@
 -- How many words masked SHA-1 and HMAC draw and how many shares they make, whatever the shares open to.
-use Prim.Native.Nat.{ℕ, zero, suc, _+_, _-_, _*_, _≤_, _<_}
+use Prim.Native.Nat.{ℕ, zero, suc, _+_, _-_, _*_, _<_}
 use mathlib.Core.Path.{_≡_, refl, ap, _∙_}
 use mathlib.Core.List.{List}
 use native.Mathlib.Nat.{suc-mul, mul-suc, zero-mul, add-mul, add-zero, mul-assoc}
@@ -11,13 +11,13 @@ use Rattle.rules.specs.Shares.{add}
 use Rattle.rules.specs.Convert.{Adder}
 use Rattle.rules.specs.Counts.{andDraws, addDraws, quarterAnds, roundsAnds, compressAnds, compressDraws, compressions, hmacDraws}
 use Rattle.rules.specs.Standard.{allBytes, bytesOf, wordsOf, keyBlock}
-use Rattle.rules.specs.Sha1.{openWords, public, rotl, summed, round, rounds, schedule, compress}
+use Rattle.rules.specs.Sha1.{openWords, public, rotl, compress}
 use Rattle.rules.specs.Hmac.{splitKey, hmacShares, hmacTag}
 use Rattle.rules.proofs.Rule.{give, bind, said, counted}
 use Rattle.rules.proofs.Addition.{add-loop-rule}
 use Rattle.rules.proofs.Functions.{xors, chosen-rule}
 use Rattle.rules.proofs.Bytes.{length-words}
-use Rattle.rules.proofs.Masked.{Keeps, Goods, goods-size, goods-of, compressionOf, word-of, summed-rule, round-rule, rounds-rule, schedule-of, compress-rule, hmac-rule, splits-rule}
+use Rattle.rules.proofs.Masked.{Keeps, Goods, goods-size, goods-of, compressionOf, compress-rule, hmac-rule, splits-rule}
 
 -- what is asked of an addition that draws d n words
 abbrev pub Sizes : (ℕ → ℕ) → Adder → Type 0
@@ -47,22 +47,8 @@ module _ (k n : ℕ) (some : 0 < n) where
   words-size : (m : ℕ) (s : List ℕ) → length s ≡ m * n → Goods (Sized n) m s (openWords n m s)
   words-size m s l = goods-of n m s l (λ i x h e. h)
 
-  pub schedule-sizes : (m p : ℕ) (w : List ℕ) → 16 ≤ m → length w ≡ m * n → length (schedule k n p w) ≡ (m + p) * n
-  schedule-sizes m p w h l = goods-size (λ x X e. e) (schedule-of (keeps-size (addDraws 1) (add 1) (add-sizes 1 (omega arith))) p h (words-size m w l))
-
   -- with any addition
   module _ (d : ℕ → ℕ) (adder : Adder) (sizes : Sizes d adder) where
-    pub summed-sizes : (t e g c w : List ℕ) → length t ≡ n → length e ≡ n → length g ≡ n → length c ≡ n → length w ≡ n → Rule (4 * d n) (λ z. length z ≡ n) (summed adder t e g c w)
-    summed-sizes t e g c w lt le lg lc lw = summed-rule (keeps-size d adder sizes) {t = t} {e = e} {g = g} {c = c} {w = w} {T = 0} {E = 0} {G = 0} {C = 0} {W = 0} lt le lg lc lw
-
-    pub round-sizes : (q : ℕ) (w s : List ℕ) → length w ≡ n → length s ≡ 5 * n → Rule (quarterAnds q * andDraws n + 4 * d n) (λ z. length z ≡ 5 * n) (round k adder n q w s)
-    round-sizes q w s lw ls = said (round-rule (keeps-size d adder sizes) {w = w} {W = 0} q lw (words-size 5 s ls)) refl (λ z g. goods-size (λ x X e. e) g)
-
-    pub rounds-sizes : (u : List ℕ) (m t : ℕ) (s : List ℕ) → t + m ≤ 80 → length u ≡ 80 * n → length s ≡ 5 * n
-        → Rule (roundsAnds 0 m t * andDraws n + m * (4 * d n)) (λ z. length z ≡ 5 * n) (rounds k adder n u m t s)
-    rounds-sizes u m t s h lu ls =
-        said (rounds-rule (keeps-size d adder sizes) u (openWords n 80 u) m t s _ (λ i l. word-of (keeps-size d adder sizes) i (omega arith) (words-size 80 u lu)) (words-size 5 s ls)) refl (λ z g. goods-size (λ x X e. e) g)
-
     pub compress-sizes : (h block : List ℕ) → length h ≡ 5 * n → length block ≡ 16 * n → Rule (compressionOf (d n) n) (λ z. length z ≡ 5 * n) (compress k adder n h block)
     compress-sizes h block lh lb = said (compress-rule (keeps-size d adder sizes) (words-size 5 h lh) (words-size 16 block lb)) refl (λ z g. goods-size (λ x X e. e) g)
 

@@ -1,21 +1,18 @@
 -- Laws of words of k bits: they stay below 2^k, sums and differences undo each other, and moving up respects ⊕ and ∧.
-use mathlib.Core.Path.{_≡_, refl, sym, ap, _∙_}
+use mathlib.Core.Path.{_≡_, sym, ap, _∙_}
 use mathlib.Core.List.{[], _∷_}
 use Prim.Native.Nat.{ℕ, suc, _+_, _-_, _*_, _/_, _%_, _^_, _≤_, _<_}
 use native.Mathlib.Nat.{mod-lt, mod-eq-of-lt, mod-add-mod, add-mod, add-mod-right, zero-mod, zero-mul, add-comm, add-zero, pow-suc}
 use native.Mathlib.Omega.{arith}
 use lib.Arith.{mod-mul}
-use lib.Bits.{bitXor, bitAnd, xor-mod, xor-block}
+use lib.Bits.{bitXor, xor-mod, xor-block}
 use lib.Pow.{pow-pos, mod-mod-pow}
 use Rattle.words.specs.Word.{plus, minus, shift, double}
-use Rattle.words.proofs.Bits.{bits, v, _⊕_, _⊗_}
+use Rattle.words.proofs.Bits.{bits, v, _⊕_}
 
 -- ---- ⊕ and ∧ are the sum and the product of a ring on bits
 pub xor-assoc : (a b c : ℕ) → bitXor (bitXor a b) c ≡ bitXor a (bitXor b c)
 xor-assoc a b c = bits (a ∷ b ∷ c ∷ []) (v 0 ⊕ v 1 ⊕ v 2) (v 0 ⊕ (v 1 ⊕ v 2)) tt
-
-pub and-xor : (a b c : ℕ) → bitAnd a (bitXor b c) ≡ bitXor (bitAnd a b) (bitAnd a c)
-and-xor a b c = bits (a ∷ b ∷ c ∷ []) (v 0 ⊗ (v 1 ⊕ v 2)) (v 0 ⊗ v 1 ⊕ v 0 ⊗ v 2) tt
 
 pub xor-back : (a b : ℕ) → bitXor a (bitXor a b) ≡ b
 xor-back a b = bits (a ∷ b ∷ []) (v 0 ⊕ (v 0 ⊕ v 1)) (v 1) tt
@@ -71,10 +68,6 @@ unfolding plus minus
 plus-minus k x r hx hr =
     let whole : x + (2 ^ k - r) + r ≡ x + 2 ^ k = omega arith in
     mod-add-mod (x + (2 ^ k - r)) (2 ^ k) r ∙ ap (λ n. n % 2 ^ k) whole ∙ add-mod-right x (2 ^ k) ∙ mod-eq-of-lt hx
-
-pub minus-plus : (k a r : ℕ) → a < 2 ^ k → r < 2 ^ k → minus k (plus k a r) r ≡ a
-unfolding plus
-minus-plus k a r ha hr = minus-of k a (plus k a r) r ha hr refl
 
 pub minus-minus : (k x r : ℕ) → x < 2 ^ k → r < 2 ^ k → minus k x (minus k x r) ≡ r
 unfolding plus
