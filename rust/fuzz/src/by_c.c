@@ -10,9 +10,9 @@ typedef struct { uint8_t *start; size_t length; } lent_bytes;
 typedef struct {
     size_t n;
     uint32_t values[3];
-    uint32_t chain[40];
     lent_words inputs[2], output, words;
     lent_bytes bytes, tag;
+    flamivorse_chain *chain;
 } arguments;
 
 /* The number, and the count of words, or the word, that a call hands back. */
@@ -41,14 +41,10 @@ static outcome counted(flamivorse_answer answer)
     return (outcome){answer.number, answer.drawn};
 }
 
-/* A compression: the chain goes by value, and the one handed back is put in its place. */
-static outcome compress(arguments *a)
+/* The chain handed back takes the place of the one given. */
+static outcome compressed(arguments *a, flamivorse_compressed answer)
 {
-    flamivorse_chain chain;
-    memcpy(chain.shares, a->chain, sizeof chain.shares);
-    flamivorse_compressed answer =
-        flamivorse_sha1_compress(a->n, chain, a->inputs[0].start, a->inputs[0].length, a->words.start, a->words.length);
-    memcpy(a->chain, answer.chain.shares, sizeof a->chain);
+    *a->chain = answer.chain;
     return (outcome){answer.number, answer.drawn};
 }
 
@@ -74,7 +70,7 @@ outcome make_by_c(const char *name, arguments *a)
     CALL(a2b, counted, a->n, SLICE(inputs[0]), SLICE(output), SLICE(words));
     CALL(b2a, counted, a->n, SLICE(inputs[0]), SLICE(output), SLICE(words));
     CALL(split_key, counted, a->n, SLICE(bytes), SLICE(output), SLICE(words));
-    if (IS(sha1_compress)) return compress(a);
+    if (IS(sha1_compress)) return compressed(a, flamivorse_sha1_compress(a->n, *a->chain, SLICE(inputs[0]), SLICE(words)));
     CALL(hmac_sha1, counted, a->n, SLICE(inputs[0]), SLICE(bytes), SLICE(tag), SLICE(words));
     abort();
 }

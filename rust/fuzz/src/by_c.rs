@@ -25,12 +25,12 @@ impl<T: Clone> From<&mut Lent<T>> for Slice<T> {
 struct Given {
     n: usize,
     values: [u32; 3],
-    chain: [u32; 40],
     inputs: [Slice<u32>; 2],
     output: Slice<u32>,
     words: Slice<u32>,
     bytes: Slice<u8>,
     tag: Slice<u8>,
+    chain: *mut u32,
 }
 
 extern "C" {
@@ -47,18 +47,16 @@ pub fn make(name: &str, a: &mut Arguments) -> Outcome {
     let mut given = Given {
         n: a.n,
         values: a.values,
-        chain: a.chain,
         inputs: a.inputs.each_mut().map(Slice::from),
         output: (&mut a.output).into(),
         words: (&mut a.words).into(),
         bytes: (&mut a.bytes).into(),
         tag: (&mut a.tag).into(),
+        chain: a.chain.slice_mut().as_mut_ptr(),
     };
-    // SAFETY: each slice is a memory of its own, borrowed for the call; no pointer is null, since
-    // the guards are always there.
-    let outcome = unsafe { make_by_c(c_name(name).as_ptr(), &mut given) };
-    a.chain = given.chain;
-    outcome
+    // SAFETY: each slice is a memory of its own, borrowed for the call, and no pointer is null,
+    // since the guards are always there. The chain has the words of the header's struct.
+    unsafe { make_by_c(c_name(name).as_ptr(), &mut given) }
 }
 
 /// Asks how many words the call of this name draws.

@@ -146,10 +146,10 @@ impl Call {
             Target::C => by_c::make(self.name, &mut ours),
         };
         let name = self.name;
-        assert_eq!(outcome, second(&mut theirs), "{name} of {arguments:?}");
+        assert_eq!(outcome, second(&mut theirs), "{name} of {arguments:x?}");
         assert!(
             ours == theirs,
-            "{name} of {arguments:?}: first differences {:?}",
+            "{name} of {arguments:x?}: first differences at {:?}",
             ours.differences(&theirs)
         );
         (outcome, ours)
@@ -179,17 +179,19 @@ macro_rules! both {
 
 /// A compression by the archive. The chain, lent by value, is written back to the arguments.
 fn archive_compress(a: &mut Arguments) -> Outcome {
-    let mut chain = Chain { shares: a.chain };
+    let shares = a.chain_words();
+    let mut chain = Chain { shares };
     let answer = flamivorse::sha1_compress(a.n, &mut chain, a.inputs[0].slice(), a.words.slice());
-    a.chain = chain.shares;
+    a.chain.slice_mut().copy_from_slice(&chain.shares);
     answer.into()
 }
 
 /// A compression by `second`.
 fn second_compress(a: &mut Arguments) -> Outcome {
-    let chain = second::Chain { shares: a.chain };
+    let shares = a.chain_words();
+    let chain = second::Chain { shares };
     let answer = second::sha1_compress(a.n, chain, a.inputs[0].slice(), a.words.slice());
-    a.chain = answer.chain.shares;
+    a.chain.slice_mut().copy_from_slice(&answer.chain.shares);
     Outcome {
         number: answer.number,
         count: answer.drawn,

@@ -6,6 +6,9 @@ use std::fmt;
 /// How many guard elements stand on each side.
 const GUARD: usize = 8;
 
+/// How many words a chain has.
+const CHAIN: usize = 40;
+
 /// A slice inside guard elements. Comparing two compares the guards too.
 #[derive(Clone, PartialEq)]
 pub struct Lent<T> {
@@ -65,7 +68,8 @@ pub struct Arguments {
     pub values: [u32; 3],
     pub inputs: [Lent<u32>; 2],
     pub bytes: Lent<u8>,
-    pub chain: [u32; 40],
+    /// The chain of a compression, which the call takes and hands back by value.
+    pub chain: Lent<u32>,
     pub output: Lent<u32>,
     pub tag: Lent<u8>,
     pub words: Lent<u32>,
@@ -87,10 +91,10 @@ impl Arguments {
         let mut words = |length| Lent::inside(random.words(length + 2 * GUARD));
         let inputs = lengths.inputs.map(&mut words);
         let output = words(lengths.output);
+        let chain = words(CHAIN);
         let words = words(lengths.words);
         let mut bytes = |length| Lent::inside(random.bytes(length + 2 * GUARD));
         let (message, tag) = (bytes(lengths.bytes), bytes(lengths.tag));
-        let chain = std::array::from_fn(|_| random.word());
         let values = std::array::from_fn(|_| random.word());
         Arguments {
             n,
@@ -106,31 +110,34 @@ impl Arguments {
     /// Puts words at the edges of the range in place of all that a call reads, but for bytes.
     pub fn to_edges(&mut self, random: &mut Random) {
         let [first, second] = &mut self.inputs;
-        for read in [
-            &mut self.values[..],
-            &mut self.chain,
-            first.slice_mut(),
-            second.slice_mut(),
-            self.words.slice_mut(),
-        ] {
-            read.fill_with(|| random.edge());
+        for read in [first, second, &mut self.chain, &mut self.words] {
+            read.slice_mut().fill_with(|| random.edge());
         }
+        self.values.fill_with(|| random.edge());
     }
 
-    /// What differs, with the first place where it does.
-    pub fn differences(&self, other: &Arguments) -> Vec<(&'static str, Option<isize>)> {
-        let chain = self.chain.iter().zip(&other.chain);
-        let chain = chain.enumerate().find(|(_, (a, b))| a != b);
-        let mut places = vec![
-            ("input 1", self.inputs[0].first_difference(&other.inputs[0])),
-            ("input 2", self.inputs[1].first_difference(&other.inputs[1])),
-            ("output", self.output.first_difference(&other.output)),
-            ("words", self.words.first_difference(&other.words)),
-            ("bytes", self.bytes.first_difference(&other.bytes)),
-            ("tag", self.tag.first_difference(&other.tag)),
-            ("chain", chain.map(|(place, _)| place as isize)),
+    /// The chain's words.
+    pub fn chain_words(&self) -> [u32; CHAIN] {
+        self.chain.slice().try_into().expect("a chain's length")
+    }
+
+    /// The slices that differ, each with the first place where it does.
+    pub fn differences(&self, other: &Arguments) -> Vec<(&'static str, isize)> {
+        let words = [
+            ("input 1", &self.inputs[0], &other.inputs[0]),
+            ("input 2", &self.inputs[1], &other.inputs[1]),
+            ("output", &self.output, &other.output),
+            ("chain", &self.chain, &other.chain),
+            ("words", &self.words, &other.words),
         ];
-        places.retain(|(_, place)| place.is_some());
-        places
+        let bytes = [
+            ("bytes", &self.bytes, &other.bytes),
+            ("tag", &self.tag, &other.tag),
+        ];
+        let words = words.map(|(name, a, b)| (name, a.first_difference(b)));
+        let bytes = bytes.map(|(name, a, b)| (name, a.first_difference(b)));
+        let all = words.into_iter().chain(bytes);
+        all.filter_map(|(name, place)| Some((name, place?)))
+            .collect()
     }
 }
