@@ -7,7 +7,7 @@ use crate::random::Random;
 
 /// What is asked of a call: to be made, or how many words it draws.
 enum Asked {
-    Made(Box<Arguments>),
+    Made(Arguments),
     Query { n: usize, bytes: usize },
 }
 
@@ -72,7 +72,7 @@ fn made(random: &mut Random) -> Case {
     if random.below(4) == 0 {
         arguments.to_edges(random);
     }
-    let asked = Asked::Made(Box::new(arguments));
+    let asked = Asked::Made(arguments);
     Case { call, asked }
 }
 

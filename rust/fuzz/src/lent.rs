@@ -107,6 +107,7 @@ impl Arguments {
             words,
         }
     }
+
     /// Puts words at the edges of the range in place of all that a call reads, but for bytes.
     pub fn to_edges(&mut self, random: &mut Random) {
         let [first, second] = &mut self.inputs;

@@ -49,17 +49,15 @@ fn main() -> ExitCode {
         eprintln!("{USAGE}");
         return ExitCode::from(2);
     };
-    println!(
-        "fuzz: target {}, seed {seed}, cases {cases:?}",
-        arguments[0]
-    );
+    let name = &arguments[0];
+    println!("fuzz: target {name}, seed {seed}, cases {cases:?}");
     match run(target, seed, cases) {
         Ok(tally) => {
             print!("{tally}");
             ExitCode::SUCCESS
         }
-        Err(number) => {
-            println!("fuzz: seed {seed}, case {number} differs: repeat it with fuzz {} {seed} 1 {number}", arguments[0]);
+        Err(case) => {
+            println!("fuzz: seed {seed}, case {case} differs; again: fuzz {name} {seed} 1 {case}");
             ExitCode::FAILURE
         }
     }
