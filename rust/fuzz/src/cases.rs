@@ -171,7 +171,9 @@ fn misfit(right: usize, random: &mut Random) -> usize {
 mod tests {
     use super::*;
     use crate::tally::Tally;
-    use std::collections::BTreeMap;
+    use std::collections::{BTreeMap, BTreeSet};
+
+    const HEADER: &str = include_str!("../../../include/flamivorse.h");
 
     /// The numbers that a call can give, by what it takes.
     fn possible(call: &Call, counted: bool) -> [bool; 6] {
@@ -197,6 +199,19 @@ mod tests {
             (format!("{}_words", call.name), numbers)
         });
         two.chain(calls).chain(queries).collect()
+    }
+
+    /// The name at the start of the text, if a parenthesis follows.
+    fn function(text: &str) -> Option<String> {
+        let end = text.find(|c: char| !c.is_ascii_alphanumeric() && c != '_')?;
+        text[end..].starts_with('(').then(|| text[..end].into())
+    }
+
+    #[test]
+    fn every_function_of_the_header_is_in_the_table() {
+        let functions = HEADER.split("flamivorse_").skip(1).filter_map(function);
+        let table = all_possible().into_keys().collect();
+        assert_eq!(functions.collect::<BTreeSet<_>>(), table);
     }
 
     #[test]
