@@ -1,10 +1,10 @@
 //! Every call on n shares against `second`, on random shares, words and lengths: the shares, the
 //! counts, and every slice that was lent.
 
-use crate::calls::{refused, Call, CALLS, COUNTS, WRONG_COUNTS};
-use crate::lent::Arguments;
-use crate::random::Random;
 use crate::report;
+use fuzz::calls::{refused, Call, Target, CALLS, COUNTS, WRONG_COUNTS};
+use fuzz::lent::Arguments;
+use fuzz::random::Random;
 
 /// How many random cases a call has at each of the share counts.
 fn repeats(call: &Call) -> [usize; 4] {
@@ -27,7 +27,7 @@ fn length(call: &Call, random: &mut Random) -> usize {
 /// One random case: with exactly the words that the query tells, with more, with others after those
 /// drawn, and with one word less. Gives how many cases that were.
 fn compare_supplies(call: &Call, exact: Arguments, random: &mut Random) -> usize {
-    let (outcome, after) = call.compare(&exact);
+    let (outcome, after) = call.compare(Target::Rust, &exact);
     assert_eq!(outcome.number, 0, "{}", call.name);
     if call.query.is_none() {
         return 1;
@@ -36,7 +36,7 @@ fn compare_supplies(call: &Call, exact: Arguments, random: &mut Random) -> usize
     let mut longer = exact.clone();
     longer.words.resize(drawn + 1 + random.below(9));
     for _ in 0..2 {
-        let (again, mut longer_after) = call.compare(&longer);
+        let (again, mut longer_after) = call.compare(Target::Rust, &longer);
         longer_after.words = after.words.clone();
         assert!(again == outcome, "{}: the tail has a say", call.name);
         assert!(longer_after == after, "{}: the tail has a say", call.name);
@@ -47,7 +47,7 @@ fn compare_supplies(call: &Call, exact: Arguments, random: &mut Random) -> usize
     }
     let mut shorter = exact;
     shorter.words.resize(drawn - 1);
-    let (outcome, after) = call.compare(&shorter);
+    let (outcome, after) = call.compare(Target::Rust, &shorter);
     assert_eq!(outcome, refused(5), "{}: one word less", call.name);
     assert!(after == shorter, "{}: one word less", call.name);
     4
@@ -72,21 +72,13 @@ fn calls() {
 #[test]
 fn queries() {
     let mut asked = 0;
-    for call in &CALLS {
-        let Some([archive, second]) = call.query else {
-            continue;
-        };
+    for call in CALLS.iter().filter(|call| call.query.is_some()) {
         let lengths = call.limit.map_or(vec![0], |limit| {
             (0..=limit + 1).chain([1 << 31, usize::MAX]).collect()
         });
         for n in COUNTS.into_iter().chain(WRONG_COUNTS) {
             for &bytes in &lengths {
-                assert_eq!(
-                    archive(n, bytes),
-                    second(n, bytes),
-                    "{}_words({n}, {bytes})",
-                    call.name
-                );
+                call.compare_query(Target::Rust, n, bytes);
             }
             asked += lengths.len();
         }

@@ -6,9 +6,6 @@
 //! ran, as `cases: N, what`.
 
 mod against_second;
-mod calls;
-mod lent;
-mod random;
 mod reference;
 mod refusals;
 mod tags;

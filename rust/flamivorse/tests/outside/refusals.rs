@@ -2,10 +2,10 @@
 //! compared with `second` and with what the rules say: the least number, no words drawn, and every
 //! slice and its guards as they came.
 
-use crate::calls::{refused, Call, CALLS, COUNTS, WRONG_COUNTS};
-use crate::lent::Arguments;
-use crate::random::Random;
 use crate::report;
+use fuzz::calls::{refused, Call, Target, CALLS, COUNTS, WRONG_COUNTS};
+use fuzz::lent::Arguments;
+use fuzz::random::Random;
 
 /// What can be wrong with the arguments of a call.
 #[derive(Clone, Copy, Debug, PartialEq)]
@@ -84,7 +84,7 @@ fn faults(call: &Call, n: usize, arguments: &Arguments) -> Vec<Fault> {
 fn compare_faults(call: &Call, arguments: &Arguments, faults: &[Fault]) {
     let mut arguments = arguments.clone();
     faults.iter().for_each(|fault| fault.apply(&mut arguments));
-    let (outcome, after) = call.compare(&arguments);
+    let (outcome, after) = call.compare(Target::Rust, &arguments);
     let number = faults.iter().map(|fault| fault.number()).min().unwrap_or(0);
     assert_eq!(outcome, refused(number), "{} with {faults:?}", call.name);
     assert!(

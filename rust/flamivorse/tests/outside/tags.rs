@@ -1,11 +1,11 @@
 //! Tags against RustCrypto's HMAC-SHA-1, the vectors of RFC 2202, and the limits of the rules.
 
-use crate::random::Random;
 use crate::report;
 use flamivorse::{
     a2b, hmac_sha1_words, open_xor, split_key_words, Key, Refusal, KEY_LIMIT, MESSAGE_LIMIT,
     TAG_BYTES,
 };
+use fuzz::random::Random;
 use hmac::{Hmac, Mac};
 use sha1::Sha1;
 

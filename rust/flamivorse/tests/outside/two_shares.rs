@@ -1,14 +1,12 @@
 //! The two-share conversions against `second`, and the refusals of their recording forms.
 
-use crate::random::Random;
 use crate::report;
-use flamivorse::{Refusal, A2B_2_STEPS, B2A_2_STEPS};
+use fuzz::calls::{Call, Target, TWO_SHARE_CALLS};
+use fuzz::lent::Arguments;
+use fuzz::random::{Random, EDGES};
 
 /// How many random triples each conversion is tried on.
 const REPEATS: usize = 2000;
-
-/// Words at the edges of the range.
-const EDGES: [u32; 5] = [0, 1, 0x7fff_ffff, 0x8000_0000, 0xffff_ffff];
 
 /// All triples of edges, then random ones.
 fn triples() -> Vec<[u32; 3]> {
@@ -37,50 +35,31 @@ fn working_forms() {
     report(2 * triples.len(), "two-share working forms against second");
 }
 
-/// A recording form, here and in `second`.
-type Record<Answer> = fn(u32, u32, u32, &mut [u32]) -> Answer;
-
-/// Compares records of every length around the right one, each in the middle of guard words.
-fn compare_records(
-    archive: Record<Result<(), Refusal>>,
-    second: Record<u32>,
-    steps: usize,
-    triples: &[[u32; 3]],
-) {
+/// Compares records, a quarter of them of any length up to twice the right one.
+fn compare_records(call: &Call, triples: &[[u32; 3]]) {
     let mut random = Random::new(101);
-    for (case, &[x, r, g]) in triples.iter().enumerate() {
-        let length = if case % 4 == 0 {
-            case % (2 * steps)
-        } else {
-            steps
-        };
-        let mut ours = random.words(length + 16);
-        let mut theirs = ours.clone();
-        let answer = archive(x, r, g, &mut ours[8..8 + length]);
-        let number = second(x, r, g, &mut theirs[8..8 + length]);
-        assert_eq!(number, if length == steps { 0 } else { 3 });
-        assert_eq!(answer.map_or_else(Refusal::number, |()| 0), number);
-        assert_eq!(ours, theirs);
+    for (case, &values) in triples.iter().enumerate() {
+        let mut lengths = call.lengths(2, 0);
+        if case % 4 == 0 {
+            lengths.output = case % (2 * call.record);
+        }
+        let mut arguments = Arguments::random(2, lengths, &mut random);
+        arguments.values = values;
+        let (outcome, _) = call.compare(Target::Rust, &arguments);
+        let right = lengths.output == call.record;
+        assert_eq!(outcome.number, if right { 0 } else { 3 });
     }
 }
 
 #[test]
 fn recording_forms() {
     let triples = triples();
-    compare_records(
-        flamivorse::b2a_2_record,
-        second::b2a_2_record,
-        B2A_2_STEPS,
-        &triples,
-    );
-    compare_records(
-        flamivorse::a2b_2_record,
-        second::a2b_2_record,
-        A2B_2_STEPS,
-        &triples,
-    );
+    let recording = TWO_SHARE_CALLS.iter().filter(|call| call.record > 0);
+    let forms = recording
+        .map(|call| compare_records(call, &triples))
+        .count();
     report(
-        2 * triples.len(),
+        forms * triples.len(),
         "two-share recording forms against second, a quarter with other lengths",
     );
 }

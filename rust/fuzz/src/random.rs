@@ -1,5 +1,8 @@
 //! Seeded random values (SplitMix64): the same on every machine and in every run.
 
+/// Words at the edges of the range.
+pub const EDGES: [u32; 5] = [0, 1, 0x7fff_ffff, 0x8000_0000, 0xffff_ffff];
+
 /// A generator.
 pub struct Random(u64);
 
@@ -13,6 +16,15 @@ impl Random {
         let z = (self.0 ^ (self.0 >> 30)).wrapping_mul(0xbf58_476d_1ce4_e5b9);
         let z = (z ^ (z >> 27)).wrapping_mul(0x94d0_49bb_1331_11eb);
         (z >> 32) as u32
+    }
+
+    pub fn edge(&mut self) -> u32 {
+        EDGES[self.below(EDGES.len())]
+    }
+
+    /// A number of 64 bits.
+    pub fn number(&mut self) -> usize {
+        (self.word() as usize) << 32 | self.word() as usize
     }
 
     /// A number below the limit.

@@ -1,7 +1,11 @@
-//! The table of all calls on n shares: what each takes, and how the archive and `second` make it.
+//! The table of all calls: what each takes, and how the archive, by Rust or by C, and `second` make
+//! it.
 
+use crate::by_c;
 use crate::lent::{Arguments, Lengths};
-use flamivorse::{Chain, Drawn, Refusal, KEY_LIMIT, MESSAGE_LIMIT, TAG_BYTES};
+use flamivorse::{
+    Chain, Drawn, Refusal, A2B_2_STEPS, B2A_2_STEPS, KEY_LIMIT, MESSAGE_LIMIT, TAG_BYTES,
+};
 
 /// The share counts that are not refused.
 pub const COUNTS: [usize; 4] = [1, 2, 4, 8];
@@ -9,7 +13,16 @@ pub const COUNTS: [usize; 4] = [1, 2, 4, 8];
 /// Share counts that are refused.
 pub const WRONG_COUNTS: [usize; 8] = [0, 3, 5, 6, 7, 9, 1 << 31, usize::MAX];
 
-/// What a call hands back: its number, and its count of words (an opening's word).
+/// How the archive is reached: through the Rust calls, or from C through the header.
+#[derive(Clone, Copy, Debug)]
+pub enum Target {
+    Rust,
+    C,
+}
+
+/// What a call hands back: its number, and its count of words (of an opening or a two-share form
+/// the word).
+#[repr(C)]
 #[derive(Clone, Copy, Debug, PartialEq)]
 pub struct Outcome {
     pub number: u32,
@@ -18,7 +31,22 @@ pub struct Outcome {
 
 /// The outcome of a refusal.
 pub fn refused(number: u32) -> Outcome {
+    number_alone(number)
+}
+
+/// The outcome of a recording form.
+fn number_alone(number: u32) -> Outcome {
     Outcome { number, count: 0 }
+}
+
+/// The outcome of a two-share form that hands back a word and refuses nothing.
+impl From<u32> for Outcome {
+    fn from(word: u32) -> Outcome {
+        Outcome {
+            number: 0,
+            count: word.into(),
+        }
+    }
 }
 
 impl From<Result<Drawn, Refusal>> for Outcome {
@@ -33,13 +61,16 @@ impl From<Result<Drawn, Refusal>> for Outcome {
     }
 }
 
+impl From<Result<(), Refusal>> for Outcome {
+    fn from(answer: Result<(), Refusal>) -> Outcome {
+        number_alone(answer.map_or_else(Refusal::number, |()| 0))
+    }
+}
+
 impl From<Result<u32, Refusal>> for Outcome {
     fn from(answer: Result<u32, Refusal>) -> Outcome {
         match answer {
-            Ok(word) => Outcome {
-                number: 0,
-                count: word.into(),
-            },
+            Ok(word) => word.into(),
             Err(refusal) => refused(refusal.number()),
         }
     }
@@ -63,14 +94,16 @@ impl From<second::Opened> for Outcome {
     }
 }
 
-/// A call as the archive makes it (through this crate), and as `second` does.
+/// A call as the archive makes it through the Rust calls, and as `second` does. C makes it by its
+/// name.
 type Made = [fn(&mut Arguments) -> Outcome; 2];
 
 /// A query of both, of the share count and the number of bytes.
 type Query = [fn(usize, usize) -> Outcome; 2];
 
-/// A call on n shares. What it does not take is 0 or none.
+/// A call. What it does not take is 0 or none.
 pub struct Call {
+    /// Its name in Rust; in C `flamivorse_` stands before it.
     pub name: &'static str,
     /// Words in each input, for each share.
     pub inputs: [usize; 2],
@@ -78,6 +111,8 @@ pub struct Call {
     pub limit: Option<usize>,
     /// Words in the output, for each share.
     pub output: usize,
+    /// Entries in the record of a two-share form.
+    pub record: usize,
     /// Bytes in the tag.
     pub tag: usize,
     pub made: Made,
@@ -94,26 +129,43 @@ impl Call {
         Lengths {
             inputs,
             bytes,
-            output: self.output * n,
+            output: self.output * n + self.record,
             tag: self.tag,
             words,
         }
     }
 
     /// Makes the call on both sides, and compares what they hand back and every slice with its
-    /// guards. Gives what was handed back, and what was lent as it stands after the call.
-    pub fn compare(&self, arguments: &Arguments) -> (Outcome, Arguments) {
+    /// guards. Gives what was handed back, and what was lent as it stands after the call. Panics
+    /// where there is a difference.
+    pub fn compare(&self, target: Target, arguments: &Arguments) -> (Outcome, Arguments) {
         let (mut ours, mut theirs) = (arguments.clone(), arguments.clone());
-        let [archive, second] = self.made;
-        let (outcome, expected) = (archive(&mut ours), second(&mut theirs));
-        assert_eq!(outcome, expected, "{} at n = {}", self.name, arguments.n);
+        let [rust, second] = self.made;
+        let outcome = match target {
+            Target::Rust => rust(&mut ours),
+            Target::C => by_c::make(self.name, &mut ours),
+        };
+        let name = self.name;
+        assert_eq!(outcome, second(&mut theirs), "{name} of {arguments:x?}");
         assert!(
             ours == theirs,
-            "{} at n = {}: slices differ",
-            self.name,
-            arguments.n
+            "{name} of {arguments:x?}: first differences at {:?}",
+            ours.differences(&theirs)
         );
         (outcome, ours)
+    }
+
+    /// Asks both sides how many words the call draws, and compares what they tell. A call without
+    /// a query tells nothing. Panics where there is a difference.
+    pub fn compare_query(&self, target: Target, n: usize, bytes: usize) -> Option<Outcome> {
+        let [rust, second] = self.query?;
+        let outcome = match target {
+            Target::Rust => rust(n, bytes),
+            Target::C => by_c::ask(self.name, n, bytes),
+        };
+        let name = self.name;
+        assert_eq!(outcome, second(n, bytes), "{name}_words({n}, {bytes})");
+        Some(outcome)
     }
 }
 
@@ -127,17 +179,19 @@ macro_rules! both {
 
 /// A compression by the archive. The chain, lent by value, is written back to the arguments.
 fn archive_compress(a: &mut Arguments) -> Outcome {
-    let mut chain = Chain { shares: a.chain };
+    let shares = a.chain_words();
+    let mut chain = Chain { shares };
     let answer = flamivorse::sha1_compress(a.n, &mut chain, a.inputs[0].slice(), a.words.slice());
-    a.chain = chain.shares;
+    a.chain.slice_mut().copy_from_slice(&chain.shares);
     answer.into()
 }
 
 /// A compression by `second`.
 fn second_compress(a: &mut Arguments) -> Outcome {
-    let chain = second::Chain { shares: a.chain };
+    let shares = a.chain_words();
+    let chain = second::Chain { shares };
     let answer = second::sha1_compress(a.n, chain, a.inputs[0].slice(), a.words.slice());
-    a.chain = answer.chain.shares;
+    a.chain.slice_mut().copy_from_slice(&answer.chain.shares);
     Outcome {
         number: answer.number,
         count: answer.drawn,
@@ -150,13 +204,64 @@ const OPENING: Call = Call {
     inputs: [1, 0],
     limit: None,
     output: 0,
+    record: 0,
     tag: 0,
     made: both!(|a| open_xor(a.n, a.inputs[0].slice())),
     query: None,
 };
 
+/// The recording form of this name in the archive and in `second`, which hands back a bare number.
+macro_rules! recording {
+    ($function:ident) => {
+        [
+            |a| {
+                flamivorse::$function(a.values[0], a.values[1], a.values[2], a.output.slice_mut())
+                    .into()
+            },
+            |a| {
+                number_alone(second::$function(
+                    a.values[0],
+                    a.values[1],
+                    a.values[2],
+                    a.output.slice_mut(),
+                ))
+            },
+        ]
+    };
+}
+
+/// Every two-share form. They take no share count.
+pub static TWO_SHARE_CALLS: [Call; 4] = [
+    Call {
+        name: "b2a_2",
+        inputs: [0, 0],
+        made: both!(|a| b2a_2(a.values[0], a.values[1], a.values[2])),
+        ..OPENING
+    },
+    Call {
+        name: "a2b_2",
+        inputs: [0, 0],
+        made: both!(|a| a2b_2(a.values[0], a.values[1], a.values[2])),
+        ..OPENING
+    },
+    Call {
+        name: "b2a_2_record",
+        inputs: [0, 0],
+        record: B2A_2_STEPS,
+        made: recording!(b2a_2_record),
+        ..OPENING
+    },
+    Call {
+        name: "a2b_2_record",
+        inputs: [0, 0],
+        record: A2B_2_STEPS,
+        made: recording!(a2b_2_record),
+        ..OPENING
+    },
+];
+
 /// Every call on n shares.
-pub const CALLS: [Call; 12] = [
+pub static CALLS: [Call; 12] = [
     OPENING,
     Call {
         name: "open_sum",
@@ -167,7 +272,7 @@ pub const CALLS: [Call; 12] = [
         name: "split",
         inputs: [0, 0],
         output: 1,
-        made: both!(|a| split(a.n, a.value, a.output.slice_mut(), a.words.slice())),
+        made: both!(|a| split(a.n, a.values[0], a.output.slice_mut(), a.words.slice())),
         query: Some(both!(|n, _bytes| split_words(n))),
         ..OPENING
     },

@@ -1,0 +1,66 @@
+//! The archive by C: by_c.c makes each call as include/flamivorse.h declares it.
+
+use crate::calls::Outcome;
+use crate::lent::{Arguments, Lent};
+use std::ffi::{c_char, CString};
+
+#[repr(C)]
+struct Slice<T> {
+    start: *mut T,
+    length: usize,
+}
+
+impl<T: Clone> From<&mut Lent<T>> for Slice<T> {
+    fn from(lent: &mut Lent<T>) -> Slice<T> {
+        let slice = lent.slice_mut();
+        Slice {
+            start: slice.as_mut_ptr(),
+            length: slice.len(),
+        }
+    }
+}
+
+/// `arguments` of by_c.c.
+#[repr(C)]
+struct Given {
+    n: usize,
+    values: [u32; 3],
+    inputs: [Slice<u32>; 2],
+    output: Slice<u32>,
+    words: Slice<u32>,
+    bytes: Slice<u8>,
+    tag: Slice<u8>,
+    chain: *mut u32,
+}
+
+extern "C" {
+    fn make_by_c(name: *const c_char, arguments: *mut Given) -> Outcome;
+    fn ask_by_c(name: *const c_char, n: usize, bytes: usize) -> Outcome;
+}
+
+fn c_name(name: &str) -> CString {
+    CString::new(name).expect("a name in the table")
+}
+
+/// Makes the call of this name.
+pub fn make(name: &str, a: &mut Arguments) -> Outcome {
+    let mut given = Given {
+        n: a.n,
+        values: a.values,
+        inputs: a.inputs.each_mut().map(Slice::from),
+        output: (&mut a.output).into(),
+        words: (&mut a.words).into(),
+        bytes: (&mut a.bytes).into(),
+        tag: (&mut a.tag).into(),
+        chain: a.chain.slice_mut().as_mut_ptr(),
+    };
+    // SAFETY: each slice is a memory of its own, borrowed for the call, and no pointer is null,
+    // since the guards are always there. The chain has the words of the header's struct.
+    unsafe { make_by_c(c_name(name).as_ptr(), &mut given) }
+}
+
+/// Asks how many words the call of this name draws.
+pub fn ask(name: &str, n: usize, bytes: usize) -> Outcome {
+    // SAFETY: it takes any numbers, and no memory but the name.
+    unsafe { ask_by_c(c_name(name).as_ptr(), n, bytes) }
+}

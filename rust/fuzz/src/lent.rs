@@ -1,0 +1,144 @@
+//! Slices lent to a call, each with guard elements on both sides, and all that a call can be lent.
+
+use crate::random::Random;
+use std::fmt;
+
+/// How many guard elements stand on each side.
+const GUARD: usize = 8;
+
+/// How many words a chain has.
+const CHAIN: usize = 40;
+
+/// A slice inside guard elements. Comparing two compares the guards too.
+#[derive(Clone, PartialEq)]
+pub struct Lent<T> {
+    memory: Vec<T>,
+}
+
+/// Its length and its first elements, enough to recognise it by.
+impl<T: Clone + fmt::LowerHex> fmt::Debug for Lent<T> {
+    fn fmt(&self, f: &mut fmt::Formatter<'_>) -> fmt::Result {
+        let slice = self.slice();
+        write!(f, "{} of", slice.len())?;
+        slice.iter().take(4).try_for_each(|x| write!(f, " {x:x}"))?;
+        f.write_str(if slice.len() > 4 { " ..." } else { "" })
+    }
+}
+
+impl<T: PartialEq> Lent<T> {
+    /// The first place, counted from the slice's start, where the two differ. Places below 0 and
+    /// from the slice's end on are guards.
+    fn first_difference(&self, other: &Lent<T>) -> Option<isize> {
+        let place = self
+            .memory
+            .iter()
+            .zip(&other.memory)
+            .position(|(a, b)| a != b)?;
+        Some(place as isize - GUARD as isize)
+    }
+}
+
+impl<T: Clone> Lent<T> {
+    /// Lends all but the first and the last few elements.
+    fn inside(memory: Vec<T>) -> Lent<T> {
+        Lent { memory }
+    }
+
+    pub fn slice(&self) -> &[T] {
+        &self.memory[GUARD..self.memory.len() - GUARD]
+    }
+
+    pub fn slice_mut(&mut self) -> &mut [T] {
+        let end = self.memory.len() - GUARD;
+        &mut self.memory[GUARD..end]
+    }
+
+    /// Takes elements away at the end, or puts copies of the last guard there.
+    pub fn resize(&mut self, length: usize) {
+        let guard = self.memory[self.memory.len() - 1].clone();
+        self.memory.resize(length + 2 * GUARD, guard);
+    }
+}
+
+/// All that a call can be lent, and its numbers. Each call takes what it needs.
+#[derive(Clone, Debug, PartialEq)]
+pub struct Arguments {
+    pub n: usize,
+    /// The value to split; x or a, r and g of the two-share forms.
+    pub values: [u32; 3],
+    pub inputs: [Lent<u32>; 2],
+    pub bytes: Lent<u8>,
+    /// The chain of a compression, which the call takes and hands back by value.
+    pub chain: Lent<u32>,
+    pub output: Lent<u32>,
+    pub tag: Lent<u8>,
+    pub words: Lent<u32>,
+}
+
+/// How long each slice is.
+#[derive(Clone, Copy)]
+pub struct Lengths {
+    pub inputs: [usize; 2],
+    pub bytes: usize,
+    pub output: usize,
+    pub tag: usize,
+    pub words: usize,
+}
+
+impl Arguments {
+    /// Random contents in slices of these lengths.
+    pub fn random(n: usize, lengths: Lengths, random: &mut Random) -> Arguments {
+        let mut words = |length| Lent::inside(random.words(length + 2 * GUARD));
+        let inputs = lengths.inputs.map(&mut words);
+        let output = words(lengths.output);
+        let chain = words(CHAIN);
+        let words = words(lengths.words);
+        let mut bytes = |length| Lent::inside(random.bytes(length + 2 * GUARD));
+        let (message, tag) = (bytes(lengths.bytes), bytes(lengths.tag));
+        let values = std::array::from_fn(|_| random.word());
+        Arguments {
+            n,
+            values,
+            inputs,
+            bytes: message,
+            chain,
+            output,
+            tag,
+            words,
+        }
+    }
+
+    /// Puts words at the edges of the range in place of all that a call reads, but for bytes.
+    pub fn to_edges(&mut self, random: &mut Random) {
+        let [first, second] = &mut self.inputs;
+        for read in [first, second, &mut self.chain, &mut self.words] {
+            read.slice_mut().fill_with(|| random.edge());
+        }
+        self.values.fill_with(|| random.edge());
+    }
+
+    /// The chain's words.
+    pub fn chain_words(&self) -> [u32; CHAIN] {
+        self.chain.slice().try_into().expect("a chain's length")
+    }
+
+    /// The slices that differ, each with the first place where it does.
+    pub fn differences(&self, other: &Arguments) -> Vec<(&'static str, isize)> {
+        let words = [
+            ("input 1", &self.inputs[0], &other.inputs[0]),
+            ("input 2", &self.inputs[1], &other.inputs[1]),
+            ("output", &self.output, &other.output),
+            ("chain", &self.chain, &other.chain),
+            ("words", &self.words, &other.words),
+        ];
+        let bytes = [
+            ("bytes", &self.bytes, &other.bytes),
+            ("tag", &self.tag, &other.tag),
+        ];
+        let words = words.map(|(name, a, b)| (name, a.first_difference(b)));
+        let bytes = bytes.map(|(name, a, b)| (name, a.first_difference(b)));
+        let all = words.into_iter().chain(bytes);
+        all.filter_map(|(name, place)| Some((name, place?)))
+            .collect()
+    }
+}
