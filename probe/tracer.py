@@ -1,0 +1,115 @@
+"""The tracer, compiled from its C sources, and one call run under it."""
+import ctypes
+import os
+import subprocess
+from dataclasses import dataclass
+from statistics import NormalDist
+
+from image import STUBS
+from inputs import DATA, Inputs, Result
+
+HERE = os.path.dirname(os.path.abspath(__file__))
+SECRETS = 4
+FALSE_ALARM = 1e-5  # for a whole call
+SPREAD = 7919  # with another seed other steps are sampled
+WORD, WEIGHT, FLAGS = range(3)
+REGISTER, OWN, LENT = range(3)
+OTHER_PATH, LOST, EMULATOR = 1, 2, 3
+u64 = ctypes.c_uint64
+
+
+class Finding(ctypes.Structure):
+    """trace.h has the meaning of each."""
+
+    _fields_ = [("step", u64), ("address", u64), ("deviate", ctypes.c_double), ("ones", ctypes.c_uint32 * 8)]
+    _fields_ += [(name, ctypes.c_int32) for name in ("kind", "where", "lane", "number", "test", "handed_back")]
+
+
+@dataclass
+class Measured:
+    """What the runs of one call showed."""
+
+    steps: int
+    runs: int
+    values: int
+    largest: float
+    threshold: float
+    leaks: list
+    handed_back: list
+    side_by_side: int
+    missed: tuple
+    moved: tuple
+
+
+class Stopped(Exception):
+    """A run that did not go as the others: why, and whether that is a leak."""
+
+    def __init__(self, why, leak):
+        super().__init__(why)
+        self.leak = leak
+
+
+def compile_tracer(folder):
+    library = os.path.join(folder, "tracer.so")
+    sources = [os.path.join(HERE, name) for name in ("trace.c", "count.c", "decode.c")]
+    subprocess.run(["cc", "-O2", "-Wall", "-Wextra", "-shared", "-fPIC", *sources, "-o", library, "-lunicorn", "-lcapstone", "-lm"], check=True)
+    return library
+
+
+def text_of(library, image, address):
+    text = ctypes.create_string_buffer(80)
+    code = image.code[address - STUBS : address - STUBS + 16]
+    ctypes.CDLL(library).probe_text(code, u64(len(code)), u64(address), text, u64(80))
+    return text.value.decode()
+
+
+class Tracer:
+    """The tracer, opened for one call. Once in a process."""
+
+    def __init__(self, library, image, call, seed):
+        self.library, self.image, self.call = ctypes.CDLL(library), image, call
+        self.entry = image.entry(call.function)
+        if self.entry is None:
+            raise Stopped(f"there is no function {call.function}", leak=False)
+        self.inputs = Inputs(call, SECRETS, seed)
+        frame = self.inputs.draw(0)
+        handed = call.hands_back
+        place = (u64(frame.offsets[handed]), u64(handed.count * handed.width // 8)) if handed else (u64(0), u64(0))
+        image_words = (u64(STUBS), image.code, u64(len(image.code)))
+        if self.library.probe_open(*image_words, u64(DATA), u64(len(frame.data)), SECRETS, call.visits, u64(call.sample), u64(seed * SPREAD), *place):
+            raise Stopped("the emulator does not start", leak=False)
+
+    def run(self, which):
+        """One run with a secret; it must take the path of the others, and give the number that is expected."""
+        frame = self.inputs.draw(which)
+        result, after = (u64 * 2)(), ctypes.POINTER(ctypes.c_uint8)()
+        registers = (u64 * len(frame.registers))(*frame.registers)
+        stack = (frame.stack, u64(len(frame.stack)))
+        ending = self.library.probe_run(which, u64(self.entry), registers, len(registers), *stack, frame.data, result, ctypes.byref(after))
+        if ending == OTHER_PATH:
+            raise Stopped(f"the path depends on the data at {self.image.place(result[1])}", leak=True)
+        if ending:
+            raise Stopped(f"the emulator stops at {self.image.place(result[1])}, {ending - EMULATOR}", leak=False)
+        number = result[0] & 0xFFFFFFFF
+        for argument in self.call.arguments:
+            if isinstance(argument, Result):
+                number = int.from_bytes(bytes(after[frame.offsets[argument] + i] for i in range(4)), "little")
+        if self.call.number not in (None, number):
+            raise Stopped(f"it answers {number}, not {self.call.number}", leak=False)
+
+    def measure(self, runs):
+        for run in range(runs * SECRETS + 1):  # the first is for the path alone
+            self.run(run % SECRETS)
+        self.library.probe_values.restype = self.library.probe_findings.restype = u64
+        findings, tests, state = (Finding * max(1, self.library.probe_values()))(), u64(), (u64 * 5)()
+        found = findings[: self.library.probe_findings(findings, ctypes.byref(tests))]
+        self.library.probe_state(state)
+        threshold = NormalDist().inv_cdf(1 - FALSE_ALARM / max(tests.value, 1))
+        leaks = [one for one in found if one.deviate > threshold and (one.where == LENT or not self.call.only_lent)]
+        open_steps = {one.step for one in leaks if one.handed_back}
+        wide = {one.address for one in leaks if one.kind == WEIGHT}
+        handed_back = [one for one in leaks if one.step in open_steps]
+        leaks = [one for one in leaks if one.step not in open_steps and one.kind != WEIGHT]
+        wide -= {one.address for one in leaks + handed_back}
+        largest = max((one.deviate for one in found if one.kind != WEIGHT), default=0)
+        return Measured(state[0], runs, len(found), largest, threshold, leaks, handed_back, len(wide), (state[1], state[2]), (state[3], state[4]))
