@@ -23,18 +23,18 @@ def call(name, n, arguments, **more):
     return Call(f"{name}, {n} shares", f"flamivorse_{name}", (Number(n), *arguments), number=0, **more)
 
 
-def hmac_sha1(n, quick, deep):
+def hmac_sha1(n, sample, quick, deep):
     """The tag of three bytes: four compressions. Its bytes are handed back in the clear, and nothing else may be."""
     key, tag = Secret("key", n, words=16), Room(20, width=8)
     arguments = (Shares(key), Text(b"abc"), tag, FreshWords(4 * compress_words(n)))
-    return call("hmac_sha1", n, arguments, hands_back=tag, visits=4, sample=16411, quick=quick, deep=deep)
+    return call("hmac_sha1", n, arguments, hands_back=tag, visits=4, sample=sample, quick=quick, deep=deep)
 
 
-def sha1_compress(n, quick, deep):
+def sha1_compress(n, sample, quick, deep):
     """The chain is a struct passed by value, and the answer (number, count and chain) is written where the first argument says."""
     chain, block = Secret("chain", n, words=5), Secret("block", n, words=16)
     arguments = (Result(44), Number(n), SharesByValue(chain, 40), Shares(block), FreshWords(compress_words(n)))
-    return Call(f"sha1_compress, {n} shares", "flamivorse_sha1_compress", arguments, number=0, visits=4, sample=16411, quick=quick, deep=deep)
+    return Call(f"sha1_compress, {n} shares", "flamivorse_sha1_compress", arguments, number=0, visits=4, sample=sample, quick=quick, deep=deep)
 
 
 def conversions(n):
@@ -86,10 +86,10 @@ def two_share_forms():
 
 
 CALLS = [
-    hmac_sha1(4, quick=40, deep=200),
-    hmac_sha1(2, quick=100, deep=500),
-    sha1_compress(4, quick=100, deep=500),
-    sha1_compress(2, quick=200, deep=2000),
+    hmac_sha1(4, sample=160001, quick=40, deep=400),
+    hmac_sha1(2, sample=65537, quick=100, deep=1000),
+    sha1_compress(4, sample=40009, quick=100, deep=2000),
+    sha1_compress(2, sample=16411, quick=200, deep=4000),
     *(one for n in (4, 2) for part in (conversions, operations, splittings, openings) for one in part(n)),
     *two_share_forms(),
 ]

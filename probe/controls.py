@@ -1,5 +1,5 @@
 """Controls: code that must be flagged, and code that must not, so that a clean answer says something."""
-from inputs import Call, FreshWord, FreshWords, Number, Room, Secret, Share, Shares
+from inputs import Call, FreshWord, FreshWords, Room, Secret, Share, Shares
 
 X, Y, SUM = Secret("x", 2), Secret("y", 2), Secret("x", 2, by_sum=True)
 SHARES_OF_X = (Share(X, 0), Share(X, 1))
@@ -22,8 +22,11 @@ HAND_WRITTEN = [
     Call("control: another word is open as well", "open_and_more", (*SHARES_OF_X, Share(Y, 0), Share(Y, 1), Room(1)), hands_back=Room(1), leaks=True),
 ]
 
-# The library itself, with the two functions of the veil handing back their value and nothing else: see run.
-BARE = [
-    Call("control: and without the veil", "flamivorse_and", (Number(2), Shares(X), Shares(Y), Room(2), FreshWords(1)), number=0, leaks=True),
-    Call("control: a2b_2 without the veil", "flamivorse_a2b_2", (Share(SUM, 0), Share(SUM, 1), FreshWord()), leaks=True),
-]
+
+def trial(leaks):
+    """trial/lib.rt: two calls of the library, built with its veil or with one that adds nothing (see run)."""
+    veil = "without" if leaks else "with"
+    return [
+        Call(f"control: AND {veil} the veil", "trial_and", (Shares(X), Shares(Y), Room(2), FreshWords(1)), number=1, leaks=leaks),
+        Call(f"control: a2b_2 {veil} the veil", "trial_a2b_2", (Share(SUM, 0), Share(SUM, 1), FreshWord()), leaks=leaks),
+    ]

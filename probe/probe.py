@@ -104,7 +104,8 @@ def examine(job):
 
 
 def jobs_of(library, options):
-    tables = ((options.archive, calls.CALLS), (options.controls, controls.HAND_WRITTEN), (options.bare, controls.BARE))
+    tables = [(options.archive, calls.CALLS), (options.controls, controls.HAND_WRITTEN)]
+    tables += [(options.veiled, controls.trial(leaks=False)), (options.unveiled, controls.trial(leaks=True))]
     for file, table in tables:
         image = Image(file) if file else None
         for call in table if file else ():
@@ -116,7 +117,8 @@ def options_given():
     parser = argparse.ArgumentParser(description=__doc__)
     parser.add_argument("archive", nargs="?", help="libflamivorse.a, to be tested")
     parser.add_argument("--controls", metavar="OBJECT", help="controls.s, assembled")
-    parser.add_argument("--bare", metavar="ARCHIVE", help="the library without the veil, which must leak")
+    parser.add_argument("--veiled", metavar="ARCHIVE", help="trial/lib.rt with the veil")
+    parser.add_argument("--unveiled", metavar="ARCHIVE", help="trial/lib.rt with a veil that adds nothing")
     parser.add_argument("--deep", action="store_true", help="many more runs")
     parser.add_argument("--only", default="", metavar="TEXT", help="only calls with this in their names")
     parser.add_argument("--runs", type=int, help="so many for each secret")

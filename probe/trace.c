@@ -16,11 +16,13 @@ enum { SAME, OTHER_PATH, LOST, EMULATOR };   // how a run ends; EMULATOR + e: Un
 
 typedef struct { uint64_t at, length; uint8_t *bytes; } Region;
 typedef struct { uint64_t from, to; } Window;
+typedef struct { uint32_t size, steps; } Block;
 
 static uc_engine *watched, *fast;
 static Region image, data, stack;
 static uint8_t *image_as_linked;
 static Instruction *instructions;            // by offset in the image
+static Block *blocks;                        // the same
 static uint32_t *visits, visits_kept;        // visits of each place; how many are kept, 0: all
 static uint64_t sample_every, sample_from;   // besides, SAMPLE steps are kept of so many, from a place on; 0: none
 
@@ -201,6 +203,16 @@ static void on_instruction(uc_engine *engine, uint64_t address, uint32_t size, v
         begin_kept(address);
 }
 
+static uint64_t steps_in(uint64_t address, uint32_t size) {
+    Block *block = blocks + (address - image.at);
+    if (block->size == size)
+        return block->steps;
+    *block = (Block){ .size = size };
+    for (uint64_t at = address; at < address + size; at += instruction_at(at)->length)
+        block->steps++;
+    return block->steps;
+}
+
 // The fast engine is told of whole blocks: it stops before the block that has the goal in it.
 static void on_block(uc_engine *engine, uint64_t address, uint32_t size, void *unused) {
     (void)unused;
@@ -208,9 +220,7 @@ static void on_block(uc_engine *engine, uint64_t address, uint32_t size, void *u
         leave_path(engine, address);
         return;
     }
-    uint64_t steps = 0;
-    for (uint64_t at = address; at < address + size; at += instruction_at(at)->length)
-        steps++;
+    uint64_t steps = steps_in(address, size);
     if (steps == 0)
         ending = LOST;
     if (ending || step + steps > goal)
@@ -295,6 +305,7 @@ int probe_open(uint64_t image_at, const uint8_t *linked, uint64_t image_length, 
     memcpy(image_as_linked, linked, image_length);
     memcpy(image.bytes, linked, image_length);
     instructions = calloc(image_length, sizeof *instructions);
+    blocks = calloc(image_length, sizeof *blocks);
     visits = calloc(image_length, sizeof *visits);
     visits_kept = visits_to_keep;
     sample_every = every;
