@@ -57,7 +57,7 @@ def operations(n):
 
 
 def splittings(n):
-    """These get the secret in the clear. Then registers hold it, but nothing that is stored may depend on it, nor the path."""
+    """These get the secret in the clear. Their registers hold it; what they store in the caller's slices may not depend on it, nor the path."""
     value, key = Secret("value", 1), Secret("key", 1, words=20, width=8)
     return [
         call("split_key", n, (Shares(key), Room(16 * n), FreshWords(16 * (n - 1))), only_lent=True),
@@ -86,10 +86,10 @@ def two_share_forms():
 
 
 CALLS = [
-    hmac_sha1(4, sample=160001, quick=40, deep=400),
-    hmac_sha1(2, sample=65537, quick=100, deep=1000),
-    sha1_compress(4, sample=40009, quick=100, deep=2000),
-    sha1_compress(2, sample=16411, quick=200, deep=4000),
+    hmac_sha1(4, sample=160001, quick=40, deep=100),
+    hmac_sha1(2, sample=65537, quick=100, deep=400),
+    sha1_compress(4, sample=40009, quick=100, deep=500),
+    sha1_compress(2, sample=16411, quick=200, deep=2000),
     *(one for n in (4, 2) for part in (conversions, operations, splittings, openings) for one in part(n)),
     *two_share_forms(),
 ]

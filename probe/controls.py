@@ -1,8 +1,8 @@
 """Controls: code that must be flagged, and code that must not, so that a clean answer says something."""
 from inputs import Call, FreshWord, FreshWords, Room, Secret, Share, Shares
 
-X, Y, SUM = Secret("x", 2), Secret("y", 2), Secret("x", 2, by_sum=True)
-SHARES_OF_X = (Share(X, 0), Share(X, 1))
+X, Y, SUM, CLEAR = Secret("x", 2), Secret("y", 2), Secret("x", 2, by_sum=True), Secret("x", 1)
+SHARES_OF_X, SHARES_OF_Y = (Share(X, 0), Share(X, 1)), (Share(Y, 0), Share(Y, 1))
 MASKED_AND = (Shares(X), Shares(Y), FreshWords(1), Room(2))
 
 # controls.s
@@ -17,9 +17,9 @@ HAND_WRITTEN = [
     Call("control: unmasked in the carry alone", "carry", (Share(SUM, 0), Share(SUM, 1)), leaks=True),
     Call("control: a branch by the secret", "branch", SHARES_OF_X, leaks=True),
     Call("control: an address by a share", "lookup", (*SHARES_OF_X, Room(16)), leaks=True),
-    Call("control: a share stored that is the value itself", "split_bare", (Share(Secret("value", 1), 0), Room(2), FreshWords(1)), only_lent=True, leaks=True),
+    Call("control: a share that is the value itself", "split_bare", (Share(CLEAR, 0), Room(2), FreshWords(1)), only_lent=True, leaks=True),
     Call("control: only the word handed back is open", "open_at_end", (*SHARES_OF_X, Room(1)), hands_back=Room(1)),
-    Call("control: another word is open as well", "open_and_more", (*SHARES_OF_X, Share(Y, 0), Share(Y, 1), Room(1)), hands_back=Room(1), leaks=True),
+    Call("control: another word is open as well", "open_and_more", (*SHARES_OF_X, *SHARES_OF_Y, Room(1)), hands_back=Room(1), leaks=True),
 ]
 
 

@@ -71,8 +71,8 @@ static void count_value(Value *value, const uint32_t *seen) {
         }
         if (!value->counts) {
             value->counts = calloc((size_t)columns_of(value) * secrets * 256, sizeof *value->counts);
-            for (int s = 0; s < secrets; s++)
-                add_seen(value, s, value->first, before[s]);
+            for (int other = 0; other < secrets; other++)
+                add_seen(value, other, value->first, before[other]);
         }
         add_seen(value, secret, *seen, 1);
     }
@@ -108,13 +108,13 @@ int counts_end_run(int secret, const uint8_t *handed_back) {
 // Chi-square of one row of a table, and whether the row was enough for it.
 static int add_row(const double *row, const double *totals, double all, double least, double *sum) {
     double row_total = 0;
-    for (int s = 0; s < secrets; s++)
-        row_total += row[s];
+    for (int secret = 0; secret < secrets; secret++)
+        row_total += row[secret];
     if (row_total * least / all < LEAST)
         return 0;
-    for (int s = 0; s < secrets; s++) {
-        double expected = row_total * totals[s] / all;
-        *sum += (row[s] - expected) * (row[s] - expected) / expected;
+    for (int secret = 0; secret < secrets; secret++) {
+        double expected = row_total * totals[secret] / all;
+        *sum += (row[secret] - expected) * (row[secret] - expected) / expected;
     }
     return 1;
 }
@@ -123,11 +123,11 @@ static int add_row(const double *row, const double *totals, double all, double l
 static double deviate(double table[256][8], int bins) {
     double totals[8] = { 0 }, pool[8] = { 0 }, all = 0, least = 0, sum = 0;
     int rows = 0;
-    for (int s = 0; s < secrets; s++) {
+    for (int secret = 0; secret < secrets; secret++) {
         for (int bin = 0; bin < bins; bin++)
-            totals[s] += table[bin][s];
-        all += totals[s];
-        least = s == 0 || totals[s] < least ? totals[s] : least;
+            totals[secret] += table[bin][secret];
+        all += totals[secret];
+        least = secret == 0 || totals[secret] < least ? totals[secret] : least;
     }
     if (least == 0)
         return 0;
@@ -136,8 +136,8 @@ static double deviate(double table[256][8], int bins) {
             rows++;
             continue;
         }
-        for (int s = 0; s < secrets; s++)
-            pool[s] += table[bin][s];
+        for (int secret = 0; secret < secrets; secret++)
+            pool[secret] += table[bin][secret];
     }
     rows += add_row(pool, totals, all, least, &sum);
     if (rows < 2)
@@ -151,16 +151,16 @@ static void test_part(const Value *value, int column, int shift, int bits, int t
     static double table[256][8];
     int bins = 1 << bits;
     memset(table, 0, bins * sizeof *table);
-    for (int s = 0; s < secrets; s++)
+    for (int secret = 0; secret < secrets; secret++)
         for (int seen = 0; seen < 256; seen++)
-            table[seen >> shift & (bins - 1)][s] += value->counts[(column * secrets + s) * 256 + seen];
+            table[seen >> shift & (bins - 1)][secret] += value->counts[(column * secrets + secret) * 256 + seen];
     double found = deviate(table, bins);
     if (found <= strongest->deviate || (bits > 1 && strongest->deviate > 8 && strongest->test < 32))
         return;
     strongest->deviate = found;
     strongest->test = test;
-    for (int s = 0; s < secrets; s++)
-        strongest->ones[s] = bits == 1 ? table[1][s] : 0;
+    for (int secret = 0; secret < secrets; secret++)
+        strongest->ones[secret] = bits == 1 ? table[1][secret] : 0;
 }
 
 // All tests of a column; how many.

@@ -67,22 +67,33 @@ def faults_of(image, call, measured):
         yield "nothing of what it hands back openly was seen"
 
 
-def summary(call, measured, seconds):
-    text = f"{measured.steps} steps, {measured.values} values, {SECRETS} x {measured.runs} runs"
-    text += f", largest deviate {measured.largest:.1f} (limit {measured.threshold:.1f})" if not measured.handed_back else ""
+def count(findings):
+    instructions = len({one.address for one in findings})
+    return f"{instructions} instruction{'s' * (instructions != 1)}"
+
+
+def summary(measured, seconds):
+    parts = [f"{measured.steps} steps, {measured.values} values, {SECRETS} x {measured.runs} runs"]
+    if measured.leaks:
+        parts.append(f"at {count(measured.leaks)}")
+    elif measured.moved[0]:
+        parts.append("by an address")
+    elif not measured.handed_back:
+        parts.append(f"largest deviate {measured.largest:.1f}, limit {measured.threshold:.1f}")
     if measured.handed_back:
-        places, first = {one.address for one in measured.handed_back}, min(one.step for one in measured.handed_back)
-        text += f"; {len(places)} instructions hold what it hands back, all in the last {measured.steps - first} steps"
+        first = min(one.step for one in measured.handed_back)
+        parts.append(f"{count(measured.handed_back)} in the last {measured.steps - first} steps hold what it hands back")
     if measured.side_by_side:
-        text += f"; {measured.side_by_side} hold shares side by side"
-    return f"{text}, {seconds:.0f} s"
+        parts.append(f"{measured.side_by_side} hold shares side by side")
+    return "; ".join(parts) + f" ({seconds:.0f} s)"
 
 
-def judge(call, leaks, fault, summary_text, lines):
+def judge(call, leaks, fault, text, lines):
+    """The verdict on a call; the details are told only where it is not as expected."""
     expected = not fault and leaks == call.leaks
     verdict = "error" if fault else "leak" if leaks else "clean"
     mark = "" if expected else "NOT AS EXPECTED: "
-    return Outcome(expected, leaks, [f"{mark}{call.name}: {verdict}, {summary_text}", *([] if expected else lines)])
+    return Outcome(expected, leaks, [f"{mark}{call.name}: {verdict}; {text}", *([] if expected else lines)])
 
 
 def examine(job):
@@ -97,8 +108,8 @@ def examine(job):
     lines = list(leak_lines(library, image, measured, options.show))
     if measured.moved[0]:
         lines.append(f"    {measured.moved[0]} times an address depends on the data, last at {image.place(measured.moved[1])}")
-    text = f"{len({one.address for one in measured.leaks})} instructions, " if measured.leaks else ""
-    outcome = judge(call, bool(measured.leaks or measured.moved[0]), bool(faults), text + summary(call, measured, time.time() - start), faults + lines)
+    leaks = bool(measured.leaks or measured.moved[0])
+    outcome = judge(call, leaks, bool(faults), summary(measured, time.time() - start), faults + lines)
     outcome.values, outcome.runs = measured.values, SECRETS * runs
     return outcome
 

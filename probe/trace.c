@@ -1,4 +1,4 @@
-// Runs a function of an x86-64 image under Unicorn, with the same path each time, and hands each value that its instructions leave to count.c.
+// Runs a function of an x86-64 image under Unicorn, and hands each value that its instructions leave to count.c.
 //
 // The first run takes down the path and which steps are kept. In later runs the engine `watched` stops at every instruction of the
 // kept steps; between them `fast` runs, which only compares the path at every jump. Both work on the same memory.
@@ -86,7 +86,8 @@ static uint64_t address_of(const Instruction *instruction) {
 
 static void put(uint32_t seen, int kind, int where, int number, int lane) {
     if (first_run)
-        counts_first_value((Value){ .step = step - 1, .address = current, .first = seen, .kind = kind, .where = where, .number = number, .lane = lane });
+        counts_first_value((Value){ .step = step - 1, .address = current, .first = seen,
+                                    .kind = kind, .where = where, .number = number, .lane = lane });
     else if (counts_value(current, seen))
         ending = OTHER_PATH;
 }

@@ -2,7 +2,7 @@
 import ctypes
 import os
 import subprocess
-from dataclasses import dataclass
+from dataclasses import dataclass, field
 from statistics import NormalDist
 
 from image import STUBS
@@ -14,7 +14,7 @@ FALSE_ALARM = 1e-5  # for a whole call
 SPREAD = 7919  # with another seed other steps are sampled
 WORD, WEIGHT, FLAGS = range(3)
 REGISTER, OWN, LENT = range(3)
-OTHER_PATH, LOST, EMULATOR = 1, 2, 3
+OTHER_PATH, LOST, EMULATOR = 1, 2, 3  # how a run ends: trace.c
 u64 = ctypes.c_uint64
 
 
@@ -31,14 +31,14 @@ class Measured:
 
     steps: int
     runs: int
-    values: int
-    largest: float
-    threshold: float
-    leaks: list
-    handed_back: list
-    side_by_side: int
-    missed: tuple
-    moved: tuple
+    missed: list  # how many registers the decoder missed, and where last
+    moved: list  # how often an address differed from run to run, and where last
+    leaks: list = field(default_factory=list)
+    handed_back: list = field(default_factory=list)
+    side_by_side: int = 0
+    values: int = 0
+    largest: float = 0
+    threshold: float = 0
 
 
 class Stopped(Exception):
@@ -89,7 +89,8 @@ class Tracer:
         if ending == OTHER_PATH:
             raise Stopped(f"the path depends on the data at {self.image.place(result[1])}", leak=True)
         if ending:
-            raise Stopped(f"the emulator stops at {self.image.place(result[1])}, {ending - EMULATOR}", leak=False)
+            why = "loses the path" if ending == LOST else f"stops with error {ending - EMULATOR}"
+            raise Stopped(f"the emulator {why} at {self.image.place(result[1])}", leak=False)
         number = result[0] & 0xFFFFFFFF
         for argument in self.call.arguments:
             if isinstance(argument, Result):
@@ -105,11 +106,21 @@ class Tracer:
         found = findings[: self.library.probe_findings(findings, ctypes.byref(tests))]
         self.library.probe_state(state)
         threshold = NormalDist().inv_cdf(1 - FALSE_ALARM / max(tests.value, 1))
-        leaks = [one for one in found if one.deviate > threshold and (one.where == LENT or not self.call.only_lent)]
-        open_steps = {one.step for one in leaks if one.handed_back}
-        wide = {one.address for one in leaks if one.kind == WEIGHT}
-        handed_back = [one for one in leaks if one.step in open_steps]
-        leaks = [one for one in leaks if one.step not in open_steps and one.kind != WEIGHT]
-        wide -= {one.address for one in leaks + handed_back}
-        largest = max((one.deviate for one in found if one.kind != WEIGHT), default=0)
-        return Measured(state[0], runs, len(found), largest, threshold, leaks, handed_back, len(wide), (state[1], state[2]), (state[3], state[4]))
+        found = [one for one in found if one.where == LENT or not self.call.only_lent]
+        return self.sorted_out(found, threshold, Measured(steps=state[0], runs=runs, missed=state[1:3], moved=state[3:5]))
+
+    @staticmethod
+    def sorted_out(found, threshold, measured):
+        """The findings beyond the threshold, by what they mean."""
+        beyond = [one for one in found if one.deviate > threshold]
+        open_steps = {one.step for one in beyond if one.handed_back}
+        for one in beyond:
+            if one.handed_back or (one.kind != WORD and one.step in open_steps):
+                measured.handed_back.append(one)
+            elif one.kind != WEIGHT:
+                measured.leaks.append(one)
+        told = {one.address for one in measured.leaks + measured.handed_back}
+        measured.side_by_side = len({one.address for one in beyond} - told)
+        measured.values, measured.threshold = len(found), threshold
+        measured.largest = max((one.deviate for one in found if one.kind != WEIGHT), default=0)
+        return measured
