@@ -39,10 +39,10 @@ def sha1_compress(n, sample, quick, deep):
 
 def conversions(n):
     arithmetic, x = Secret("x", n, by_sum=True), Secret("x", n)
-    visits = 0 if n == 2 else 8
+    kept = {} if n == 2 else {"visits": 4, "sample": 2039}
     return [
-        call("b2a", n, (Shares(x), Room(n), FreshWords(b2a_words(n))), quick=1000, deep=10000, visits=visits),
-        call("a2b", n, (Shares(arithmetic), Room(n), FreshWords(a2b_words(n))), quick=1000, deep=10000, visits=visits),
+        call("b2a", n, (Shares(x), Room(n), FreshWords(b2a_words(n))), quick=1000, deep=10000, **kept),
+        call("a2b", n, (Shares(arithmetic), Room(n), FreshWords(a2b_words(n))), quick=1000, deep=10000, **kept),
     ]
 
 

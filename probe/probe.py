@@ -6,7 +6,7 @@ import os
 import sys
 import tempfile
 import time
-from collections import defaultdict
+from collections import Counter, defaultdict
 from dataclasses import dataclass
 
 import calls
@@ -23,8 +23,8 @@ FEWEST = 40  # runs for each secret: with fewer, hardly anything could be seen
 class Outcome:
     """What is said of one call, and what goes into the totals."""
 
+    verdict: str
     expected: bool
-    leaks: bool
     lines: list
     values: int = 0
     runs: int = 0
@@ -93,7 +93,7 @@ def judge(call, leaks, fault, text, lines):
     expected = not fault and leaks == call.leaks
     verdict = "error" if fault else "leak" if leaks else "clean"
     mark = "" if expected else "NOT AS EXPECTED: "
-    return Outcome(expected, leaks, [f"{mark}{call.name}: {verdict}; {text}", *([] if expected else lines)])
+    return Outcome(verdict, expected, [f"{mark}{call.name}: {verdict}; {text}", *([] if expected else lines)])
 
 
 def examine(job):
@@ -112,6 +112,14 @@ def examine(job):
     outcome = judge(call, leaks, bool(faults), summary(measured, time.time() - start), faults + lines)
     outcome.values, outcome.runs = measured.values, SECRETS * runs
     return outcome
+
+
+def totals(outcomes, seconds):
+    verdicts = Counter(outcome.verdict for outcome in outcomes)
+    bad = sum(not outcome.expected for outcome in outcomes)
+    values, runs = sum(outcome.values for outcome in outcomes), sum(outcome.runs for outcome in outcomes)
+    return (f"probe: {len(outcomes)} calls, {verdicts['clean']} clean and {verdicts['leak']} flagged, {bad} not as expected; "
+            f"{values} values, {runs} runs, {seconds:.0f} s")
 
 
 def jobs_of(library, options):
@@ -147,11 +155,8 @@ def main():
             for outcome in pool.imap(examine, jobs, chunksize=1):
                 print(*outcome.lines, sep="\n", flush=True)
                 outcomes.append(outcome)
-    bad = sum(not outcome.expected for outcome in outcomes)
-    flagged = sum(outcome.leaks for outcome in outcomes)
-    print(f"probe: {len(outcomes)} calls, {len(outcomes) - flagged} clean and {flagged} flagged, {bad} not as expected; "
-          f"{sum(outcome.values for outcome in outcomes)} values, {sum(outcome.runs for outcome in outcomes)} runs, {time.time() - start:.0f} s")
-    sys.exit(bad > 0 or not outcomes)
+    print(totals(outcomes, time.time() - start))
+    sys.exit(not outcomes or any(not outcome.expected for outcome in outcomes))
 
 
 if __name__ == "__main__":

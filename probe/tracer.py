@@ -68,15 +68,17 @@ class Tracer:
 
     def __init__(self, library, image, call, seed):
         self.library, self.image, self.call = ctypes.CDLL(library), image, call
+        self.library.probe_values.restype = self.library.probe_findings.restype = u64
         self.entry = image.entry(call.function)
         if self.entry is None:
             raise Stopped(f"there is no function {call.function}", leak=False)
         self.inputs = Inputs(call, SECRETS, seed)
         frame = self.inputs.draw(0)
         handed = call.hands_back
-        place = (u64(frame.offsets[handed]), u64(handed.count * handed.width // 8)) if handed else (u64(0), u64(0))
-        image_words = (u64(STUBS), image.code, u64(len(image.code)))
-        if self.library.probe_open(*image_words, u64(DATA), u64(len(frame.data)), SECRETS, call.visits, u64(call.sample), u64(seed * SPREAD), *place):
+        opened = (u64(frame.offsets[handed]), u64(handed.count * handed.width // 8)) if handed else (u64(0), u64(0))
+        memory = (u64(STUBS), image.code, u64(len(image.code)), u64(DATA), u64(len(frame.data)))
+        kept = (call.visits, u64(call.sample), u64(seed * SPREAD))
+        if self.library.probe_open(*memory, SECRETS, *kept, *opened):
             raise Stopped("the emulator does not start", leak=False)
 
     def run(self, which):
@@ -91,17 +93,20 @@ class Tracer:
         if ending:
             why = "loses the path" if ending == LOST else f"stops with error {ending - EMULATOR}"
             raise Stopped(f"the emulator {why} at {self.image.place(result[1])}", leak=False)
-        number = result[0] & 0xFFFFFFFF
-        for argument in self.call.arguments:
-            if isinstance(argument, Result):
-                number = int.from_bytes(bytes(after[frame.offsets[argument] + i] for i in range(4)), "little")
+        number = self.number(frame, result[0], after)
         if self.call.number not in (None, number):
             raise Stopped(f"it answers {number}, not {self.call.number}", leak=False)
+
+    def number(self, frame, answer, after):
+        """The number that was handed back: in the answer, or at the start of a struct in memory."""
+        for argument in self.call.arguments:
+            if isinstance(argument, Result):
+                return int.from_bytes(bytes(after[frame.offsets[argument] + i] for i in range(4)), "little")
+        return answer & 0xFFFFFFFF
 
     def measure(self, runs):
         for run in range(runs * SECRETS + 1):  # the first is for the path alone
             self.run(run % SECRETS)
-        self.library.probe_values.restype = self.library.probe_findings.restype = u64
         findings, tests, state = (Finding * max(1, self.library.probe_values()))(), u64(), (u64 * 5)()
         found = findings[: self.library.probe_findings(findings, ctypes.byref(tests))]
         self.library.probe_state(state)
