@@ -15,6 +15,7 @@ HAND_WRITTEN = [
     Call("control: unmasked in memory", "in_memory", (*SHARES_OF_X, Room(1)), leaks=True),
     Call("control: unmasked in a vector", "in_vector", SHARES_OF_X, leaks=True),
     Call("control: unmasked in the carry alone", "carry", (Share(SUM, 0), Share(SUM, 1)), leaks=True),
+    Call("control: a bit of the secret in one run of 16", "bias", (*SHARES_OF_X, FreshWords(4)), leaks=True),
     Call("control: a branch by the secret", "branch", SHARES_OF_X, leaks=True),
     Call("control: an address by a share", "lookup", (*SHARES_OF_X, Room(16)), leaks=True),
     Call("control: a share that is the value itself", "split_bare", (Share(CLEAR, 0), Room(2), FreshWords(1)), only_lent=True, leaks=True),

@@ -92,6 +92,17 @@ function carry
     lea eax, [rdi]
     ret
 
+# (x0, x1, words, _): the secret's bits where four fresh words have ones: each bit of it in one run of 16
+function bias
+    mov eax, [rdx]
+    and eax, [rdx+4]
+    and eax, [rdx+8]
+    and eax, [rdx+12]
+    and edi, eax
+    and esi, eax
+    xor edi, esi
+    ret
+
 # (x0, x1): a jump by the secret
 function branch
     cmp edi, esi
