@@ -7,6 +7,7 @@ import sys
 import tempfile
 import time
 from collections import Counter, defaultdict
+from concurrent.futures import ThreadPoolExecutor
 from dataclasses import dataclass
 
 import calls
@@ -97,7 +98,7 @@ def judge(call, leaks, fault, text, lines):
 
 
 def examine(job):
-    """One call, in a process of its own."""
+    """One call, once in a process."""
     library, image, call, runs, options = job
     start = time.time()
     try:
@@ -112,6 +113,24 @@ def examine(job):
     outcome = judge(call, leaks, bool(faults), summary(measured, time.time() - start), faults + lines)
     outcome.values, outcome.runs = measured.values, SECRETS * runs
     return outcome
+
+
+def send_outcome(sender, job):
+    sender.send(examine(job))
+
+
+def in_own_process(job):
+    """One call in a process of its own; an error where that ends without an outcome."""
+    receiver, sender = multiprocessing.Pipe(duplex=False)
+    process = multiprocessing.Process(target=send_outcome, args=(sender, job))
+    process.start()
+    sender.close()
+    try:
+        return receiver.recv()
+    except EOFError:
+        return judge(job[2], False, True, "the tracer broke off", [])
+    finally:
+        process.join()
 
 
 def totals(outcomes, seconds):
@@ -132,6 +151,13 @@ def jobs_of(library, options):
                 yield library, image, call, options.runs or (call.deep if options.deep else call.quick), options
 
 
+def untested(archive):
+    """Functions of the archive that no call is for. The queries, which end so, take no secret."""
+    known = {call.function for call in calls.CALLS}
+    names = [name for _, name in Image(archive).functions if name.startswith("flamivorse_") and not name.endswith("_words")]
+    return [Outcome("error", False, [f"NOT AS EXPECTED: no call of {name} is tested"]) for name in names if name not in known]
+
+
 def options_given():
     parser = argparse.ArgumentParser(description=__doc__)
     parser.add_argument("archive", nargs="?", help="libflamivorse.a, to be tested")
@@ -148,11 +174,14 @@ def options_given():
 
 
 def main():
-    options, start, outcomes = options_given(), time.time(), []
+    options, start = options_given(), time.time()
+    outcomes = untested(options.archive) if options.archive else []
+    for outcome in outcomes:
+        print(*outcome.lines)
     with tempfile.TemporaryDirectory() as folder:
         jobs = list(jobs_of(compile_tracer(folder), options))
-        with multiprocessing.Pool(options.jobs, maxtasksperchild=1) as pool:
-            for outcome in pool.imap(examine, jobs, chunksize=1):
+        with ThreadPoolExecutor(options.jobs) as threads:
+            for outcome in threads.map(in_own_process, jobs):
                 print(*outcome.lines, sep="\n", flush=True)
                 outcomes.append(outcome)
     print(totals(outcomes, time.time() - start))
