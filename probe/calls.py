@@ -1,0 +1,95 @@
+"""The calls of the archive that work on shares, the long ones first. The queries take no secret."""
+from inputs import Call, FreshWord, FreshWords, Number, Result, Room, Secret, Share, Shares, SharesByValue, Text
+
+
+def add_words(n):
+    return 16 * n * (n - 1)
+
+
+def a2b_words(n):
+    return 0 if n == 1 else 2 * a2b_words(n // 2) + n + add_words(n)
+
+
+def b2a_words(n):
+    return 2 * (n - 1) + a2b_words(n) + add_words(n)
+
+
+def compress_words(n):
+    return 5220 * n * (n - 1)
+
+
+def call(name, n, arguments, **more):
+    """A call with n shares that must be done: the number 0."""
+    return Call(f"{name}, {n} shares", f"flamivorse_{name}", (Number(n), *arguments), number=0, **more)
+
+
+def hmac_sha1(n, sample, quick, deep):
+    """The tag of three bytes: four compressions. Its bytes are handed back in the clear, and nothing else may be."""
+    key, tag = Secret("key", n, words=16), Room(20, width=8)
+    arguments = (Shares(key), Text(b"abc"), tag, FreshWords(4 * compress_words(n)))
+    return call("hmac_sha1", n, arguments, hands_back=tag, visits=4, sample=sample, quick=quick, deep=deep)
+
+
+def sha1_compress(n, sample, quick, deep):
+    """The chain is a struct passed by value, and the answer (number, count and chain) is written where the first argument says."""
+    chain, block = Secret("chain", n, words=5), Secret("block", n, words=16)
+    arguments = (Result(44), Number(n), SharesByValue(chain, 40), Shares(block), FreshWords(compress_words(n)))
+    return Call(f"sha1_compress, {n} shares", "flamivorse_sha1_compress", arguments, number=0, visits=4, sample=sample, quick=quick, deep=deep)
+
+
+def conversions(n):
+    arithmetic, x = Secret("x", n, by_sum=True), Secret("x", n)
+    kept = {} if n == 2 else {"visits": 4, "sample": 2039}
+    return [
+        call("b2a", n, (Shares(x), Room(n), FreshWords(b2a_words(n))), quick=1000, deep=10000, **kept),
+        call("a2b", n, (Shares(arithmetic), Room(n), FreshWords(a2b_words(n))), quick=1000, deep=10000, **kept),
+    ]
+
+
+def operations(n):
+    x, y = Secret("x", n), Secret("y", n)
+    return [
+        call("add", n, (Shares(x), Shares(y), Room(n), FreshWords(add_words(n))), quick=2000),
+        call("and", n, (Shares(x), Shares(y), Room(n), FreshWords(n * (n - 1) // 2))),
+        call("expand", n, (Shares(x), Room(2 * n), FreshWords(n))),
+        call("refresh", n, (Shares(x), Room(n), FreshWords(n - 1))),
+    ]
+
+
+def splittings(n):
+    """These get the secret in the clear. Their registers hold it; what they store in the caller's slices may not depend on it, nor the path."""
+    value, key = Secret("value", 1), Secret("key", 1, words=20, width=8)
+    return [
+        call("split_key", n, (Shares(key), Room(16 * n), FreshWords(16 * (n - 1))), only_lent=True),
+        call("split", n, (Share(value, 0), Room(n), FreshWords(n - 1)), only_lent=True),
+    ]
+
+
+def openings(n):
+    """These open what they get, and must be seen to."""
+    return [
+        call("open_xor", n, (Shares(Secret("x", n)),), leaks=True),
+        call("open_sum", n, (Shares(Secret("x", n, by_sum=True)),), leaks=True),
+    ]
+
+
+def two_share_forms():
+    by_xor, by_sum = Secret("x", 2), Secret("x", 2, by_sum=True)
+    b2a = (Share(by_xor, 0), Share(by_xor, 1), FreshWord())
+    a2b = (Share(by_sum, 0), Share(by_sum, 1), FreshWord())
+    return [
+        Call("a2b_2_record", "flamivorse_a2b_2_record", (*a2b, Room(165)), number=0),
+        Call("b2a_2_record", "flamivorse_b2a_2_record", (*b2a, Room(7)), number=0),
+        Call("a2b_2", "flamivorse_a2b_2", a2b),
+        Call("b2a_2", "flamivorse_b2a_2", b2a),
+    ]
+
+
+CALLS = [
+    hmac_sha1(4, sample=160001, quick=40, deep=100),
+    hmac_sha1(2, sample=65537, quick=100, deep=400),
+    sha1_compress(4, sample=40009, quick=100, deep=500),
+    sha1_compress(2, sample=16411, quick=200, deep=2000),
+    *(one for n in (4, 2) for part in (conversions, operations, splittings, openings) for one in part(n)),
+    *two_share_forms(),
+]
