@@ -10,6 +10,7 @@ ghost use Rattle.rules.specs.Numbers.{largest};
 ghost use Rattle.rules.specs.Shares.{each, pass, along, mix, refresh, expand, cross, and, doubleXor, carries, add};
 ghost use Rattle.rules.specs.Counts.{refreshDraws, andDraws, addDraws};
 use supply::draw_at;
+use veil::after;
 use veil::held;
 
 // The largest share count: room for shares is made for so many.
@@ -23,7 +24,7 @@ pub fn copy(x: &[u32], y: &mut [u32])
     let mut i = 0;
     while i < x.len() {
         y[i] = x[i];
-        i += 1;
+        i = after(i);
     }
 }
 
@@ -35,7 +36,7 @@ pub fn put(x: &[u32], z: &mut [u32], at: usize)
     let mut i = 0;
     while i < x.len() {
         z[at + i] = x[i];
-        i += 1;
+        i = after(i);
     }
 }
 

@@ -14,12 +14,12 @@ abbrev μ-loop : tie.MeasureT-loop
 μ-loop x y₀ i₀ y i = length x - i
 
 loop-holds : tie.Need-loop-holds Inv-loop μ-loop
-loop-holds c = (search needs, c .pre, refl)
+loop-holds c = (search needs, c .before .before .pre, refl)
 
 loop-again : tie.Need-loop-again Inv-loop μ-loop
 loop-again c =
-    let l = c .before .before .loop in
-    (search needs, search needs, filled-next (l .y) _ (l .i) _ (omega arith) (l .inv .1) refl (l .inv .2))
+    let l = c .before .before .before .loop in
+    (search needs, search needs, rw (c .after .ensures) (filled-next (l .y) _ (l .i) _ (omega arith) (l .inv .1) refl (l .inv .2)))
 
 returns : tie.Need-returns Inv-loop μ-loop
 returns c = let l = c .before .loop in filled-end _ _ (l .i) (c .loop-test .left) (l .inv .1) (l .inv .2)
@@ -35,7 +35,7 @@ copy-spec =
     (λ c. search needs)
     (λ c. search needs)
     (λ c. search needs)
-    (λ c. search needs)
+    (λ c κs. search needs)
     (λ c. search needs)
     loop-again
     (λ c. search needs)

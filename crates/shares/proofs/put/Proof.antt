@@ -17,14 +17,14 @@ abbrev μ-loop : tie.MeasureT-loop
 μ-loop x z₀ at i₀ z i = length x - i
 
 loop-holds : tie.Need-loop-holds Inv-loop μ-loop
-loop-holds c = (search needs, refl, rw (add-zero (c .args .at)))
+loop-holds c = (search needs, refl, rw (add-zero (c .before .before .args .at)))
 
 loop-again : tie.Need-loop-again Inv-loop μ-loop
 loop-again c =
-    let l = c .before .before .loop in (
+    let l = c .before .before .before .loop in (
       search needs,
       search needs,
-      sets-next (l .z) _ _ _ (l .i) (c .before .loop-test .taken) (l .inv .2),
+      rw (c .after .ensures) (sets-next (l .z) _ _ _ (l .i) (c .before .before .loop-test .taken) (l .inv .2)),
     )
 
 returns : tie.Need-returns Inv-loop μ-loop
@@ -42,7 +42,7 @@ put-spec =
     (λ c. search needs)
     (λ c. search needs)
     (λ c. search needs)
-    (λ c. search needs)
+    (λ c κs. search needs)
     (λ c. search needs)
     loop-again
     (λ c. search needs)
