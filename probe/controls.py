@@ -10,7 +10,7 @@ HAND_WRITTEN = [
     Call("control: AND in the rules' order", "and_safe", MASKED_AND),
     Call("control: AND with its cross terms regrouped", "and_regrouped", MASKED_AND, leaks=True),
     Call("control: Goubin's Boolean to arithmetic", "b2a_safe", (*SHARES_OF_X, FreshWord())),
-    Call("control: both shares in one register", "pair", (Shares(X),)),
+    Call("control: both shares in one register", "pair", (Shares(X),), leaks=True),
     Call("control: unmasked in a register", "in_register", SHARES_OF_X, leaks=True),
     Call("control: unmasked in memory", "in_memory", (*SHARES_OF_X, Room(1)), leaks=True),
     Call("control: unmasked in a vector", "in_vector", SHARES_OF_X, leaks=True),

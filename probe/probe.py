@@ -13,7 +13,7 @@ from dataclasses import dataclass
 import calls
 import controls
 from image import Image
-from tracer import FLAGS, REGISTER, SECRETS, Stopped, Tracer, compile_tracer, text_of
+from tracer import FLAGS, REGISTER, SECRETS, WORD, Stopped, Tracer, compile_tracer, text_of
 
 REGISTERS = "rax rcx rdx rbx rsp rbp rsi rdi r8 r9 r10 r11 r12 r13 r14 r15".split() + [f"xmm{i}" for i in range(16)]
 FLAG_NAMES = "CF PF ZF SF OF".split()
@@ -50,7 +50,7 @@ def leak_lines(library, image, measured, show):
         places[finding.address].append(finding)
     for address in sorted(places)[:show]:
         worst = max(places[address], key=lambda finding: (finding.kind != FLAGS, finding.deviate))
-        what = "memory" if worst.where != REGISTER else "flags" if worst.kind == FLAGS else f"{REGISTERS[worst.number]}.{worst.lane}"
+        what = "memory" if worst.where != REGISTER else "flags" if worst.kind == FLAGS else REGISTERS[worst.number] + f".{worst.lane}" * (worst.kind == WORD)
         first = min(finding.step for finding in places[address])
         yield (f"    {image.place(address)}  {text_of(library, image, address)}  {what}: {test_name(worst, measured.runs)}, "
                f"deviate {worst.deviate:.0f}, {len(places[address])} times, first at step {first} of {measured.steps}")
@@ -84,8 +84,6 @@ def summary(measured, seconds):
     if measured.handed_back:
         first = min(one.step for one in measured.handed_back)
         parts.append(f"{count(measured.handed_back)} in the last {measured.steps - first} steps hold what it hands back")
-    if measured.side_by_side:
-        parts.append(f"{measured.side_by_side} hold shares side by side")
     return "; ".join(parts) + f" ({seconds:.0f} s)"
 
 

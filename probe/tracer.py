@@ -35,7 +35,6 @@ class Measured:
     moved: list  # how often an address differed from run to run, and where last
     leaks: list = field(default_factory=list)
     handed_back: list = field(default_factory=list)
-    side_by_side: int = 0
     values: int = 0
     largest: float = 0
     threshold: float = 0
@@ -122,10 +121,8 @@ class Tracer:
         for one in beyond:
             if one.handed_back or (one.kind != WORD and one.step in open_steps):
                 measured.handed_back.append(one)
-            elif one.kind != WEIGHT:
+            else:
                 measured.leaks.append(one)
-        told = {one.address for one in measured.leaks + measured.handed_back}
-        measured.side_by_side = len({one.address for one in beyond} - told)
         measured.values, measured.threshold = len(found), threshold
-        measured.largest = max((one.deviate for one in found if one.kind != WEIGHT), default=0)
+        measured.largest = max((one.deviate for one in found), default=0)
         return measured
