@@ -1,3 +1,4 @@
+-- up to place i every share is negated; the last place becomes 0
 use borrow.Author.Needs.{needs}
 use native.Mathlib.Omega.{arith}
 use Prim.Native.Nat.{_+_, _-_, _≤_}

@@ -1,3 +1,4 @@
+-- a block of public words, compressed into the chain
 use borrow.Author.Needs.{needs}
 use native.Mathlib.Omega.{arith}
 use Prim.Native.Nat.{_*_}

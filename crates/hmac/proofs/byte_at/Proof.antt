@@ -1,3 +1,4 @@
+-- a byte of the padded message: text, the one bit, zeros, or the length
 use borrow.Author.Needs.{needs}
 use Rattle.hmac.proofs.Padding.{text-case, one-case, zero-case, high-case, low-case}
 use Rattle.hmac.proofs.byte_at.Statement.{statement}

@@ -1,3 +1,4 @@
+-- the inner digest in shares, then the padding as public words
 use borrow.Author.Needs.{needs}
 use Rattle.hmac.proofs.Blocks.{digest-made}
 use Rattle.hmac.proofs.digest_block.Statement.{statement}

@@ -1,3 +1,4 @@
+-- the digest's block compressed into the outer chain
 use borrow.Author.Needs.{needs}
 use native.Mathlib.Omega.{arith}
 use Rattle.rules.proofs.Loops.{chain-length}

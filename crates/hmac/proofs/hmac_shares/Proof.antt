@@ -1,3 +1,4 @@
+-- inner key block, message, outer key block, digest block: the rule's order
 use borrow.Author.Needs.{needs}
 use native.Mathlib.Omega.{arith}
 use lib.ListN.{length}

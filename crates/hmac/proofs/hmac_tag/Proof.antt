@@ -1,3 +1,4 @@
+-- the shares of the tag, then their opening
 use borrow.Author.Needs.{needs}
 use Rattle.hmac.proofs.Steps.{tag-made}
 use Rattle.hmac.proofs.hmac_tag.Statement.{statement}

@@ -1,3 +1,4 @@
+-- a byte of the key, or 0 past its end
 use borrow.Author.Needs.{needs}
 use Rattle.hmac.proofs.Tags.{key-case, key-past}
 use Rattle.hmac.proofs.key_byte.Statement.{statement}

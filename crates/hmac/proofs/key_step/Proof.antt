@@ -1,3 +1,4 @@
+-- the key's block with its constant, compressed into the starting chain
 use borrow.Author.Needs.{needs}
 use Rattle.hmac.proofs.Steps.{key-made}
 use Rattle.hmac.proofs.key_step.Statement.{statement}

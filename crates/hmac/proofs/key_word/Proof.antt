@@ -1,3 +1,4 @@
+-- four bytes of the padded key, the first one highest
 use borrow.Author.Needs.{needs}
 use Rattle.hmac.proofs.Padding.{word-made}
 use Rattle.hmac.proofs.key_word.Statement.{statement}

@@ -1,3 +1,4 @@
+-- the blocks that are left, from here on, give what all of them give from the start
 use borrow.Author.Needs.{needs}
 use native.Mathlib.Omega.{arith}
 use Prim.Native.Nat.{_+_, _-_, _*_, _/_, _≤_}

@@ -1,3 +1,4 @@
+-- up to word i the words stand as public values
 use borrow.Author.Needs.{needs}
 use native.Mathlib.Omega.{arith}
 use Prim.Native.Nat.{_-_, _*_, _≤_}

@@ -1,3 +1,4 @@
+-- a word as four bytes, the highest first
 use borrow.Author.Needs.{needs}
 use native.Mathlib.Omega.{arith}
 use Prim.Native.Nat.{_*_}

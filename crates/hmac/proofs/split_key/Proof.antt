@@ -1,3 +1,4 @@
+-- up to word i the key is split; what is left, from here on, gives the rest
 use borrow.Author.Needs.{needs}
 use native.Mathlib.Omega.{arith}
 use Prim.Native.Nat.{_+_, _-_, _*_, _≤_}

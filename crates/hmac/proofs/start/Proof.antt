@@ -1,3 +1,4 @@
+-- the five words of the standard's starting chain, as public values
 use borrow.Author.Needs.{needs}
 use Rattle.hmac.proofs.Blocks.{start-made}
 use Rattle.hmac.proofs.start.Statement.{statement}

@@ -1,3 +1,4 @@
+-- up to word i the tag's words are opened and written as bytes
 use borrow.Author.Needs.{needs}
 use native.Mathlib.Omega.{arith}
 use Prim.Native.Nat.{_-_, _*_, _≤_}

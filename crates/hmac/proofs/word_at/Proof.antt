@@ -1,3 +1,4 @@
+-- four bytes of the padded message, the first one highest
 use borrow.Author.Needs.{needs}
 use Rattle.hmac.proofs.Padding.{message-word}
 use Rattle.hmac.proofs.word_at.Statement.{statement}

@@ -1,3 +1,4 @@
+-- the sum goes back into x by a copy
 use borrow.Author.Needs.{needs}
 use native.Mathlib.Omega.{arith}
 use Prim.Native.Nat.{_+_, _*_}

@@ -1,3 +1,4 @@
+-- one AND, then XOR by shares: d ⊕ (u ∧ v)
 use borrow.Author.Needs.{needs}
 use Prim.Native.Nat.{_+_}
 use mathlib.Core.Path.{sym, ap, _∙_}

@@ -1,3 +1,4 @@
+-- Ch: the AND of b and c ⊕ d, blended with d
 use borrow.Author.Needs.{needs}
 use Rattle.sha1.proofs.Parts.{choose-made}
 use Rattle.sha1.proofs.choose.Statement.{statement}

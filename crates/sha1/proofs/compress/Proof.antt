@@ -1,3 +1,4 @@
+-- chain, schedule, rounds and sums in order; the words of the chain that are not used are 0
 use borrow.Author.Needs.{needs}
 use native.Mathlib.Omega.{arith}
 use Prim.Native.Nat.{_*_}

@@ -1,3 +1,4 @@
+-- the schedule, 80 rounds and five sums, one after the other, are the rule's compression
 use borrow.Author.Needs.{needs}
 use native.Mathlib.Omega.{arith}
 use Prim.Native.Nat.{_*_}

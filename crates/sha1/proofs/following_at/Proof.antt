@@ -1,3 +1,4 @@
+-- the XOR of four earlier words, rotated, is the schedule's next word
 use borrow.Author.Needs.{needs}
 use native.Mathlib.Omega.{arith}
 use Prim.Native.Nat.{_-_, _*_, _≤_}

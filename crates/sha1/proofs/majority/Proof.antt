@@ -1,3 +1,4 @@
+-- Maj: the AND of b ⊕ d and c ⊕ d, blended with d
 use borrow.Author.Needs.{needs}
 use Rattle.sha1.proofs.Parts.{majority-made}
 use Rattle.sha1.proofs.majority.Statement.{statement}

@@ -1,3 +1,4 @@
+-- the five words after a round, stored one after the other
 use borrow.Author.Needs.{needs}
 use mathlib.Core.Path.{_∙_}
 use Rattle.words.proofs.Stores.{lent-length}

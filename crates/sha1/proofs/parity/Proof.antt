@@ -1,3 +1,4 @@
+-- two XORs by shares, and no word drawn
 use borrow.Author.Needs.{needs}
 use mathlib.Core.Path.{_∙_}
 use Rattle.sha1.proofs.parity.Statement.{statement}

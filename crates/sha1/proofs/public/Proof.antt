@@ -1,3 +1,4 @@
+-- the value in share 1 and 0 in all others
 use borrow.Author.Needs.{needs}
 use native.Mathlib.Omega.{arith}
 use Prim.Native.Nat.{ℕ, _-_, _≤_}

@@ -1,3 +1,4 @@
+-- a word of the state is stored at another place
 use borrow.Author.Needs.{needs}
 use mathlib.Core.Path.{_∙_}
 use Rattle.sha1.proofs.put_word.Statement.{statement}

@@ -1,3 +1,4 @@
+-- the quarter's number tells which function is taken, and how many words it draws
 use borrow.Author.Needs.{needs}
 use native.Mathlib.Omega.{arith}
 use Prim.Native.Nat.{_+_}

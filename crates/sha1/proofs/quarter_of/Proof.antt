@@ -1,3 +1,4 @@
+-- the words b, c and d of the state, and the function of the quarter on them
 use borrow.Author.Needs.{needs}
 use Rattle.sha1.proofs.quarter_of.Statement.{statement}
 use Rattle.sha1.proofs.quarter_of.Tie as tie

@@ -1,3 +1,4 @@
+-- up to share i the shares are rotated
 use borrow.Author.Needs.{needs}
 use native.Mathlib.Omega.{arith}
 use Prim.Native.Nat.{_-_, _≤_}

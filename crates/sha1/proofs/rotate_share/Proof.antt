@@ -1,3 +1,4 @@
+-- two shifts that share no bit are the rotation
 use borrow.Author.Needs.{needs}
 use mathlib.Core.Path.{refl}
 use Rattle.words.specs.Word.{shift}

@@ -1,3 +1,4 @@
+-- the sum of a round, then the words moved on, are one round of the rule
 use borrow.Author.Needs.{needs}
 use Rattle.sha1.proofs.Parts.{round-made}
 use Rattle.sha1.proofs.round_at.Statement.{statement}

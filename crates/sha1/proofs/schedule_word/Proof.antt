@@ -1,3 +1,4 @@
+-- the next word of the schedule is stored after the others
 use borrow.Author.Needs.{needs}
 use native.Mathlib.Omega.{arith}
 use Prim.Native.Nat.{_+_, _*_}

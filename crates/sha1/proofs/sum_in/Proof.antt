@@ -1,3 +1,4 @@
+-- four sums, each drawing from where the one before ended: the order of the rule
 use borrow.Author.Needs.{needs}
 use Rattle.sha1.proofs.Parts.{summed-made}
 use Rattle.sha1.proofs.sum_in.Statement.{statement}

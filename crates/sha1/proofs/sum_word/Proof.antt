@@ -1,3 +1,4 @@
+-- a copy of the old word, and the new one added to it, is the next word of the chain
 use borrow.Author.Needs.{needs}
 use native.Mathlib.Omega.{arith}
 use Prim.Native.Nat.{_+_, _*_}

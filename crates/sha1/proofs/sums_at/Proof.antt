@@ -1,3 +1,4 @@
+-- up to word i the chain's sums stand; what is left gives the rest
 use borrow.Author.Needs.{needs}
 use native.Mathlib.Omega.{arith}
 use Prim.Native.Nat.{_+_, _-_, _*_, _≤_}

@@ -1,3 +1,4 @@
+-- f first, then the four sums in the rule's order
 use borrow.Author.Needs.{needs}
 use Rattle.sha1.proofs.Parts.{temp-made}
 use Rattle.sha1.proofs.temp_at.Statement.{statement}

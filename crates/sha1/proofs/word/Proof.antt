@@ -1,3 +1,4 @@
+-- a word in shares is n places of the slice from w·n on
 use borrow.Author.Needs.{needs}
 use Rattle.sha1.proofs.Parts.{word-part}
 use Rattle.sha1.proofs.word.Statement.{statement}

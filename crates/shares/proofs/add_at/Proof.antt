@@ -1,3 +1,4 @@
+-- AND, XOR, carry loop and XOR, one after the other, are the rule's addition
 use borrow.Author.Needs.{needs}
 use native.Mathlib.Omega.{arith}
 use lib.ListN.{length}

@@ -1,3 +1,4 @@
+-- from pair (i, j) on, what is left of the row gives what the whole row gives
 use borrow.Author.Needs.{needs}
 use native.Mathlib.Omega.{arith}
 use Prim.Native.Nat.{_+_, _-_, _≤_}

@@ -1,3 +1,4 @@
+-- one AND and one doubling are one round of the rule
 use borrow.Author.Needs.{needs}
 use Rattle.rules.proofs.Loops.{carries-one}
 use Rattle.shares.proofs.carry_round.Statement.{statement}

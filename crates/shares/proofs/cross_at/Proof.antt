@@ -1,3 +1,4 @@
+-- the two shares stored are those of the rule's step
 use borrow.Author.Needs.{needs}
 use Rattle.shares.proofs.cross_at.Statement.{statement}
 use Rattle.shares.proofs.cross_at.Tie as tie

@@ -1,3 +1,4 @@
+-- `held` hands back the value itself, so the order of terms is all that is said
 use borrow.Author.Needs.{needs}
 use Rattle.shares.proofs.crossed.Statement.{statement}
 use Rattle.shares.proofs.crossed.Tie as tie

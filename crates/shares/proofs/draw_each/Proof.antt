@@ -1,3 +1,4 @@
+-- up to place i the words are the next ones, and the place is so many on
 use borrow.Author.Needs.{needs}
 use native.Mathlib.Omega.{arith}
 use Prim.Native.Nat.{_+_, _-_, _≤_}

@@ -1,3 +1,4 @@
+-- the masks are the next words, and the last share is the value XOR all of them
 use borrow.Author.Needs.{needs}
 use native.Mathlib.Omega.{arith}
 use Prim.Native.Nat.{_-_}
