@@ -6,6 +6,7 @@
 
 enum { ALWAYS_ZERO = 31 };                   // the bit of same_as that stands for a byte that is 0
 enum { LEAST = 8 };                          // a cell of the test that expects fewer is pooled with others
+enum { PARITY = 46 };                        // a test's number: trace.h has them all
 
 static Value *values;
 static uint64_t count, room, next;
@@ -163,12 +164,12 @@ static void test_part(const Value *value, int column, int shift, int bits, int t
         strongest->ones[secret] = bits == 1 ? table[1][secret] : 0;
 }
 
-// All tests of a column; how many.
+// All tests of a column; how many. The lowest bit of a weight is the parity: of all shares of a word it is that of the secret.
 static uint64_t test_column(const Value *value, int column, Finding *strongest) {
     int byte = value->kind == WORD && column < 4, flags = value->kind == FLAGS;
-    int bits = byte ? 8 : flags ? 5 : 0, nibbles = byte ? 2 : 0;
+    int bits = byte ? 8 : flags ? 5 : 1, nibbles = byte ? 2 : 0;
     for (int i = 0; i < bits; i++)
-        test_part(value, column, i, 1, 8 * column + i, strongest);
+        test_part(value, column, i, 1, byte || flags ? 8 * column + i : PARITY, strongest);
     for (int i = 0; i < nibbles; i++)
         test_part(value, column, 4 * i, 4, 32 + 2 * column + i, strongest);
     test_part(value, column, 0, 8, byte ? 40 + column : flags ? 45 : 44, strongest);

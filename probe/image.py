@@ -6,27 +6,25 @@ import subprocess
 import sys
 import tempfile
 
-BASE, STUBS = 0x400000, 0x3FF000
+BASE = 0x400000
 LINKER = "x86_64-linux-gnu-ld"
-STUB_CODE = {  # what the compiler calls by itself, a byte at a time
-    "memcpy": "4889f84889d1f3a4c3",
-    "memset": "4989f889f04889d1f3aa4c89c0c3",
-    "memmove": "4889f84889d14839f7760f488d740eff488d7c0ffffdf3a4fcc3f3a4c3",
-}
 LOAD, SYMBOLS, FUNCTION = 1, 2, 2  # ELF: a segment to load, a table of symbols, a symbol that is a function
 
 
 class Image:
-    """The bytes from STUBS on, and the functions as sorted pairs of address and name."""
+    """The bytes from BASE on, and the functions as sorted triples of address, name and size."""
 
     def __init__(self, file):
-        stubs, self.functions = stub_functions()
-        elf = linked(file, self.functions)
-        self.code = with_segments(elf, stubs)
-        self.functions = sorted(self.functions + functions_of(elf))
+        elf = linked(file)
+        self.code = with_segments(elf)
+        self.functions = sorted(functions_of(elf))
 
     def entry(self, function):
-        return next((address for address, name in self.functions if name == function), None)
+        return self.span(function)[0]
+
+    def span(self, function):
+        """Where a function begins and ends; nowhere where there is none of this name."""
+        return next(((address, address + size) for address, name, size in self.functions if name == function), (None, None))
 
     def place(self, address):
         """The function and the offset in it, for people."""
@@ -34,36 +32,27 @@ class Image:
         return f"{self.functions[at][1]}+{address - self.functions[at][0]:#x}" if at >= 0 else hex(address)
 
 
-def stub_functions():
-    code, functions = b"", []
-    for name, digits in STUB_CODE.items():
-        functions.append((STUBS + len(code), name))
-        code += bytes.fromhex(digits)
-    return code, functions
-
-
-def linked(file, stubs):
+def linked(file):
+    """All of the archive and nothing else: a function that it has not is an error."""
     with tempfile.TemporaryDirectory() as folder:
         out = os.path.join(folder, "image")
-        symbols = [f"--defsym={name}={address:#x}" for address, name in stubs]
         layout = ["-m", "elf_x86_64", "-static", "-e", "0", "-z", "max-page-size=4096", f"-Ttext-segment={BASE:#x}"]
-        done = subprocess.run([LINKER, *layout, "--unresolved-symbols=ignore-all", *symbols, "--whole-archive", file, "-o", out], check=False)
+        done = subprocess.run([LINKER, *layout, "--whole-archive", file, "-o", out], check=False)
         if done.returncode:
-            sys.exit(f"probe: {file} does not link")
+            sys.exit(f"probe: {file} does not link by itself")
         with open(out, "rb") as elf:
             return elf.read()
 
 
-def with_segments(elf, stubs):
+def with_segments(elf):
     offset, = struct.unpack_from("<Q", elf, 32)
     size, number = struct.unpack_from("<HH", elf, 54)
     headers = [struct.unpack_from("<IIQQQQQQ", elf, offset + i * size) for i in range(number)]
     loads = [header for header in headers if header[0] == LOAD]
     end = max(address + in_memory for _, _, _, address, _, _, in_memory, _ in loads)
-    code = bytearray((end - STUBS + 4095) & ~4095)
-    code[: len(stubs)] = stubs
+    code = bytearray((end - BASE + 4095) & ~4095)
     for _, _, start, address, _, in_file, _, _ in loads:
-        code[address - STUBS : address - STUBS + in_file] = elf[start : start + in_file]
+        code[address - BASE : address - BASE + in_file] = elf[start : start + in_file]
     return bytes(code)
 
 
@@ -77,7 +66,7 @@ def functions_of(elf):
             continue
         names = sections[section[6]][4]
         for at in range(section[4], section[4] + section[5], 24):
-            name, info, _, defined, address, _ = struct.unpack_from("<IBBHQQ", elf, at)
+            name, info, _, defined, address, length = struct.unpack_from("<IBBHQQ", elf, at)
             if info & 15 == FUNCTION and defined:
-                found.append((address, elf[names + name : elf.index(b"\0", names + name)].decode()))
+                found.append((address, elf[names + name : elf.index(b"\0", names + name)].decode(), length))
     return found

@@ -17,6 +17,7 @@ from tracer import FLAGS, REGISTER, SECRETS, WORD, Stopped, Tracer, compile_trac
 
 REGISTERS = "rax rcx rdx rbx rsp rbp rsi rdi r8 r9 r10 r11 r12 r13 r14 r15".split() + [f"xmm{i}" for i in range(16)]
 FLAG_NAMES = "CF PF ZF SF OF".split()
+WEIGHT_TEST, PARITY_TEST = 44, 46
 FEWEST = 40  # runs for each secret: with fewer, hardly anything could be seen
 
 
@@ -35,10 +36,12 @@ def test_name(finding, runs):
     """The part of a value that tells, and for a bit how often it is 1 under each secret."""
     if finding.kind == FLAGS:
         name = FLAG_NAMES[finding.test] if finding.test < 5 else "flags"
+    elif finding.test in (WEIGHT_TEST, PARITY_TEST):
+        name = "weight" if finding.test == WEIGHT_TEST else "parity"
     else:
-        limits = ((32, "bit", 0), (40, "nibble", 32), (44, "byte", 40), (45, "weight", 44))
+        limits = ((32, "bit", 0), (40, "nibble", 32), (44, "byte", 40))
         name = next(f"{part} {finding.test - first}" for limit, part, first in limits if finding.test < limit)
-    if finding.test >= 32:
+    if 32 <= finding.test < PARITY_TEST:
         return name
     return f"{name} is 1 in " + " ".join(f"{finding.ones[which] / runs:.2f}" for which in range(SECRETS))
 
@@ -152,7 +155,7 @@ def jobs_of(library, options):
 def untested(archive):
     """Functions of the archive that no call is for. The queries, which end so, take no secret."""
     known = {call.function for call in calls.CALLS}
-    names = [name for _, name in Image(archive).functions if name.startswith("flamivorse_") and not name.endswith("_words")]
+    names = [name for _, name, _ in Image(archive).functions if name.startswith("flamivorse_") and not name.endswith("_words")]
     return [Outcome("error", False, [f"NOT AS EXPECTED: no call of {name} is tested"]) for name in names if name not in known]
 
 

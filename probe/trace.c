@@ -25,6 +25,7 @@ static Instruction *instructions;            // by offset in the image
 static Block *blocks;                        // the same
 static uint32_t *visits, visits_kept;        // visits of each place; how many are kept, 0: all
 static uint64_t sample_every, sample_from;   // besides, SAMPLE steps are kept of so many, from a place on; 0: none
+static uint64_t copy_from, copy_to;          // where the archive's own copy stands: all its steps are kept
 
 static uint32_t *path;
 static uint8_t *kept;
@@ -157,8 +158,8 @@ static void lengthen_path(uint64_t address) {
         kept = realloc(kept, path_room);
         touched_first = realloc(touched_first, path_room * sizeof *touched_first);
     }
-    int sampled = sample_every && (path_length + sample_from) % sample_every < SAMPLE;
-    kept[path_length] = !visits_kept || visits[address - image.at]++ < visits_kept || sampled;
+    int sampled = sample_every && (path_length + sample_from) % sample_every < SAMPLE, copies = address >= copy_from && address < copy_to;
+    kept[path_length] = !visits_kept || visits[address - image.at]++ < visits_kept || sampled || copies;
     path[path_length++] = address;
 }
 
@@ -298,7 +299,8 @@ static Region region(uint64_t at, uint64_t length) {
 
 // Once in a process. `handed` are the bytes of the data that the call hands back openly.
 int probe_open(uint64_t image_at, const uint8_t *linked, uint64_t image_length, uint64_t data_at, uint64_t data_length, int secrets,
-               uint32_t visits_to_keep, uint64_t every, uint64_t from, uint64_t handed, uint64_t handed_bytes) {
+               uint32_t visits_to_keep, uint64_t every, uint64_t from, uint64_t copy, uint64_t copy_end, uint64_t handed,
+               uint64_t handed_bytes) {
     image = region(image_at, image_length);
     data = region(data_at, data_length);
     stack = region(STACK, STACK_LENGTH);
@@ -311,6 +313,8 @@ int probe_open(uint64_t image_at, const uint8_t *linked, uint64_t image_length, 
     visits_kept = visits_to_keep;
     sample_every = every;
     sample_from = from;
+    copy_from = copy;
+    copy_to = copy_end;
     handed_at = handed;
     handed_length = handed_bytes;
     counts_open(secrets, handed_bytes);

@@ -5,7 +5,7 @@ import subprocess
 from dataclasses import dataclass, field
 from statistics import NormalDist
 
-from image import STUBS
+from image import BASE
 from inputs import DATA, Inputs, Result
 
 HERE = os.path.dirname(os.path.abspath(__file__))
@@ -57,7 +57,7 @@ def compile_tracer(folder):
 
 def text_of(library, image, address):
     text = ctypes.create_string_buffer(80)
-    code = image.code[address - STUBS : address - STUBS + 16]
+    code = image.code[address - BASE : address - BASE + 16]
     ctypes.CDLL(library).probe_text(code, u64(len(code)), u64(address), text, u64(80))
     return text.value.decode()
 
@@ -75,8 +75,9 @@ class Tracer:
         frame = self.inputs.draw(0)
         handed = call.hands_back
         opened = (u64(frame.offsets[handed]), u64(handed.count * handed.width // 8)) if handed else (u64(0), u64(0))
-        memory = (u64(STUBS), image.code, u64(len(image.code)), u64(DATA), u64(len(frame.data)))
-        kept = (call.visits, u64(call.sample), u64(seed * SPREAD))
+        memory = (u64(BASE), image.code, u64(len(image.code)), u64(DATA), u64(len(frame.data)))
+        copy = image.span("private_copy") if image.entry("private_copy") else (0, 0)
+        kept = (call.visits, u64(call.sample), u64(seed * SPREAD), *map(u64, copy))
         if self.library.probe_open(*memory, SECRETS, *kept, *opened):
             raise Stopped("the emulator does not start", leak=False)
 

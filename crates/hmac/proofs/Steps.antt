@@ -12,7 +12,8 @@ use Rattle.rules.specs.Standard.{H0, wordsOf, padding, allBytes}
 use Rattle.rules.specs.Sha1.{publics, openWords, compress, used, chainOf}
 use Rattle.rules.specs.Hmac.{marked, blocks, padded, hmacShares, hmacTag}
 use Rattle.hmac.proofs.Padding.{length-padded}
-use Rattle.hmac.proofs.Blocks.{place-room, start-used, used-lent}
+use Rattle.sha1.proofs.Parts.{used-lent}
+use Rattle.hmac.proofs.Blocks.{place-room, start-used}
 
 abbrev Run : Type 0
 Run = List ℕ × ℕ

@@ -7,7 +7,7 @@ use native.Mathlib.Nat.{add-mul, suc-mul, zero-add, sub-zero, mul-le-mul-right}
 use native.Mathlib.Omega.{arith}
 use lib.Bits.{bitXor}
 use lib.ListN.{length, getD, set, take, drop, replicate, length-drop, length-replicate, replicate-append-replicate}
-use lib.Seq.{sets, length-sets, length-take-le, take-all, take-take, take-nil, take-at, drop-at, getD-take}
+use lib.Seq.{sets, length-sets, length-take-le, take-all, take-take, take-nil, take-at, drop-at}
 use Rattle.words.proofs.Stores.{take-sets}
 use Rattle.rules.specs.Shares.{each, and, add}
 use Rattle.rules.specs.Convert.{Adder}
@@ -206,9 +206,10 @@ pub used-length : (n : ℕ) (chain : List ℕ) → n ≤ 8 → length chain ≡ 
 unfolding used
 used-length n chain h l = length-take-le (5 * n) chain (omega arith)
 
-pub used-at : (n : ℕ) (chain : List ℕ) (i : ℕ) → i < 5 * n → getD (used n chain) i 0 ≡ getD chain i 0
+-- the used words of a chain, lent
+pub used-lent : (n : ℕ) (chain : List ℕ) → take (5 * n - 0) chain ≡ used n chain
 unfolding used
-used-at n chain i h = getD-take (5 * n) chain i 0 h
+used-lent n chain = rw (sub-zero (5 * n))
 
 pub compressDraws-parts : (n : ℕ) → compressDraws 32 n ≡ roundsAnds 32 80 0 * andDraws n + 160 * andDraws n
 unfolding compressAnds

@@ -399,29 +399,15 @@ pub struct Stepped {
     pub at: usize,
 }
 
-// The used words of a chain.
-fn load(chain: Chain, n: usize, h: &mut [u32])
-    requires { ⌜ (n ≤ largest) × (length (now h) ≡ 5 * n) ⌝ }
-    ensures { λ _. ⌜ now (h .exit) ≡ used n (chain .shares) ⌝ }
-{
-    let mut i = 0;
-    while i < h.len() {
-        let v = chain.shares[i];
-        h[i] = v;
-        i += 1;
-    }
-}
-
 // One compression, of a block of 16n words into a chain, from the word at `at` on.
 pub fn compress(n: usize, chain: Chain, block: &[u32], words: &[u32], at: usize) -> Stepped
     requires { ⌜ (0 < n) × (n ≤ largest) × (length (now block) ≡ 16 * n) × (at + compressDraws 32 n ≤ length (now words)) ⌝ }
     ensures { λ r. ⌜ (compress 32 (add 32) n (used n (chain .shares)) (now (block .entry)) (now (words .entry)) at ≡ (used n (r .chain .shares), r .at)) × (r .chain .shares ≡ chainOf n (used n (r .chain .shares))) × (r .at ≡ at + compressDraws 32 n) ⌝ }
 {
     let m = 5 * n;
-    let mut h0 = [0u32; 40];
+    let all = chain.shares;
+    let h = &all[0..m];
     let mut z0 = [0u32; 40];
-    let h = &mut h0[0..m];
-    load(chain, n, h);
     let z = &mut z0[0..m];
     let p = compress_at(n, h, block, z, words, at);
     Stepped {

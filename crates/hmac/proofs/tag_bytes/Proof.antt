@@ -8,7 +8,7 @@ use lib.ListN.{length, take, drop}
 use Rattle.rules.specs.Standard.{allBytes}
 use Rattle.rules.specs.Sha1.{openWords}
 use Rattle.rules.proofs.Loops.{chain-length}
-use Rattle.hmac.proofs.Blocks.{used-lent}
+use Rattle.sha1.proofs.Parts.{used-lent}
 use Rattle.hmac.proofs.Tags.{tag-begins, tag-room, tag-next, tag-end}
 use Rattle.hmac.proofs.tag_bytes.Statement.{statement}
 use Rattle.hmac.proofs.tag_bytes.Tie as tie
