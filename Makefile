@@ -9,7 +9,7 @@ copy = archive/copy.s
 out = target/lib
 proved = target/staticlib/libflamivorse.a
 
-.PHONY: lib FORCE
+.PHONY: lib
 lib: $(out)/libflamivorse.a
 
 $(out)/libflamivorse.a: $(proved) $(copy) archive/clear.s Makefile
@@ -24,6 +24,6 @@ $(out)/libflamivorse.a: $(proved) $(copy) archive/clear.s Makefile
 	rm -f $@
 	$(AR) rcs $@ $(out)/parts/flamivorse.o
 
-# rt itself knows whether anything has changed.
-$(proved): FORCE
+# Folders are named as well, since a file that is gone changes them.
+$(proved): crates.txt $(shell find crates -not -path '*/must-fail*')
 	rt staticlib flamivorse

@@ -1,6 +1,6 @@
 /* Tags a log with HMAC-SHA-1 under a key in four shares: a whole program over libflamivorse.a.
  *
- *   cc -o tag -I include examples/tag.c target/staticlib/libflamivorse.a
+ *   cc -o tag -I include examples/tag.c target/lib/libflamivorse.a
  *   ./tag examples/box.key examples/trial.log
  *
  * The key is the bytes of its file. The random words come from /dev/urandom, and each is used once. */
@@ -78,6 +78,7 @@ int main(int argc, char **argv)
     size_t count = accepted(key_name, flamivorse_split_key_words(SHARES, key_size));
     uint32_t *words = fresh_words(count);
     accepted(key_name, flamivorse_split_key(SHARES, key, key_size, shares, KEY_WORDS, words, count));
+    flamivorse_clear_stack();
     give_back(words, count);
     clear(key, sizeof key);
 
@@ -85,6 +86,7 @@ int main(int argc, char **argv)
     count = accepted(log_name, flamivorse_hmac_sha1_words(SHARES, log_size));
     words = fresh_words(count);
     accepted(log_name, flamivorse_hmac_sha1(SHARES, shares, KEY_WORDS, log, log_size, tag, TAG_BYTES, words, count));
+    flamivorse_clear_stack();
     give_back(words, count);
     clear(shares, sizeof shares);
 

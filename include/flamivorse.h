@@ -1,6 +1,6 @@
 /* Flamivorse: masked conversions of 32-bit words and masked HMAC-SHA-1, every call proved against its rules.
  *
- * Link with libflamivorse.a (rt staticlib flamivorse), on x86-64.
+ * Link with target/lib/libflamivorse.a (make lib), on x86-64. It needs no other library.
  *
  * Every function takes any numbers and any lengths, answers, and ends. What no proof can see and a caller must respect:
  *  - a slice is a pointer and a length in elements, and so many elements are there;
@@ -21,6 +21,13 @@
  *   4  the message is over 4,096 bytes, or the key given for splitting is over 64
  *   5  fewer words are lent than the call draws
  * A refusal reports 0 words drawn and leaves every slice as it came.
+ *
+ * What stays behind: a call leaves shares on the stack below its caller and in registers, and flamivorse_split_key bytes of the plain key.
+ * flamivorse_clear_stack clears both. What a program keeps in its own variables is its own to clear.
+ *
+ * By value: a chain that is passed or handed back is copied by the caller's compiler, in registers as wide as it likes, so that all shares
+ * of a word may stand in one, and copies of it stay in the caller's frame. No call can prevent that. Where it matters, use
+ * flamivorse_hmac_sha1: its chains never leave the archive, which copies one share at a time.
  */
 #ifndef FLAMIVORSE_H
 #define FLAMIVORSE_H
@@ -129,6 +136,10 @@ flamivorse_answer flamivorse_b2a_words(size_t n);
 flamivorse_answer flamivorse_split_key_words(size_t n, size_t key_len);
 flamivorse_answer flamivorse_sha1_compress_words(size_t n);
 flamivorse_answer flamivorse_hmac_sha1_words(size_t n, size_t message_len);
+
+/* Clears what calls have left behind: 8,192 bytes of stack below its caller, more than any call takes, and every register that a call may
+ * change. To be called from the function that made the calls, after the last that saw a secret. */
+void flamivorse_clear_stack(void);
 
 #ifdef __cplusplus
 }

@@ -1,5 +1,9 @@
 """The calls of the archive that work on shares, the long ones first. The queries take no secret."""
+from dataclasses import replace
+
 from inputs import Call, FreshWord, FreshWords, Number, Result, Room, Secret, Share, Shares, SharesByValue, Text
+
+COUNTS = (8, 4, 2)
 
 
 def add_words(n):
@@ -23,33 +27,40 @@ def call(name, n, arguments, **more):
     return Call(f"{name}, {n} shares", f"flamivorse_{name}", (Number(n), *arguments), number=0, **more)
 
 
-def hmac_sha1(n, sample, quick, deep):
+def sampled(n, sample, most):
+    """Of a long call with n shares, the first visits of each instruction and samples; of one with fewer than `most`, every step."""
+    return {"visits": 4, "sample": sample} if n >= most else {}
+
+
+def hmac_sha1(n, quick=0, deep=0):
     """The tag of three bytes: four compressions. Its bytes are handed back in the clear, and nothing else may be."""
     key, tag = Secret("key", n, words=16), Room(20, width=8)
     arguments = (Shares(key), Text(b"abc"), tag, FreshWords(4 * compress_words(n)))
-    return call("hmac_sha1", n, arguments, hands_back=tag, visits=4, sample=sample, quick=quick, deep=deep)
+    kept = sampled(n, 40009 * n, most=1)
+    return call("hmac_sha1", n, arguments, hands_back=tag, leaves=n > 1, quick=quick, deep=deep, **kept)
 
 
-def sha1_compress(n, sample, quick, deep):
+def sha1_compress(n, quick=0, deep=0):
     """The chain is a struct passed by value, and the answer (number, count and chain) is written where the first argument says."""
     chain, block = Secret("chain", n, words=5), Secret("block", n, words=16)
     arguments = (Result(44), Number(n), SharesByValue(chain, 40), Shares(block), FreshWords(compress_words(n)))
-    return Call(f"sha1_compress, {n} shares", "flamivorse_sha1_compress", arguments, number=0, visits=4, sample=sample, quick=quick, deep=deep)
+    kept = {"quick": quick, "deep": deep, **sampled(n, 10007 * n, most=1)}
+    return Call(f"sha1_compress, {n} shares", "flamivorse_sha1_compress", arguments, number=0, leaves=True, **kept)
 
 
 def conversions(n):
     arithmetic, x = Secret("x", n, by_sum=True), Secret("x", n)
-    kept = {} if n == 2 else {"visits": 4, "sample": 2039}
+    kept = {"quick": 1000, "deep": 10000, **sampled(n, 2039, most=4)}
     return [
-        call("b2a", n, (Shares(x), Room(n), FreshWords(b2a_words(n))), quick=1000, deep=10000, **kept),
-        call("a2b", n, (Shares(arithmetic), Room(n), FreshWords(a2b_words(n))), quick=1000, deep=10000, **kept),
+        call("b2a", n, (Shares(x), Room(n), FreshWords(b2a_words(n))), **kept),
+        call("a2b", n, (Shares(arithmetic), Room(n), FreshWords(a2b_words(n))), **kept),
     ]
 
 
 def operations(n):
     x, y = Secret("x", n), Secret("y", n)
     return [
-        call("add", n, (Shares(x), Shares(y), Room(n), FreshWords(add_words(n))), quick=2000),
+        call("add", n, (Shares(x), Shares(y), Room(n), FreshWords(add_words(n))), quick=2000, **sampled(n, 2039, most=8)),
         call("and", n, (Shares(x), Shares(y), Room(n), FreshWords(n * (n - 1) // 2))),
         call("expand", n, (Shares(x), Room(2 * n), FreshWords(n))),
         call("refresh", n, (Shares(x), Room(n), FreshWords(n - 1))),
@@ -58,9 +69,9 @@ def operations(n):
 
 def splittings(n):
     """These get the secret in the clear. Their registers hold it; what they store in the caller's slices may not depend on it, nor the path."""
-    value, key = Secret("value", 1), Secret("key", 1, words=20, width=8)
+    value, key = Secret("value", 1), Secret("key", 1, words=64, width=8)
     return [
-        call("split_key", n, (Shares(key), Room(16 * n), FreshWords(16 * (n - 1))), only_lent=True),
+        call("split_key", n, (Shares(key), Room(16 * n), FreshWords(16 * (n - 1))), only_lent=True, leaves=True),
         call("split", n, (Share(value, 0), Room(n), FreshWords(n - 1)), only_lent=True),
     ]
 
@@ -85,11 +96,19 @@ def two_share_forms():
     ]
 
 
-CALLS = [
-    hmac_sha1(4, sample=160001, quick=40, deep=100),
-    hmac_sha1(2, sample=65537, quick=100, deep=400),
-    sha1_compress(4, sample=40009, quick=100, deep=500),
-    sha1_compress(2, sample=16411, quick=200, deep=2000),
-    *(one for n in (4, 2) for part in (conversions, operations, splittings, openings) for one in part(n)),
-    *two_share_forms(),
+def short(n):
+    return [one for part in (conversions, operations, splittings, openings) for one in part(n)]
+
+
+# The calls that copy whole chains: with a copy of many bytes at a time these very calls must be flagged (controls.py).
+COPYING = [
+    hmac_sha1(4, quick=40, deep=100),
+    hmac_sha1(2, quick=100, deep=400),
+    sha1_compress(4, quick=100, deep=500),
+    sha1_compress(2, quick=200, deep=2000),
 ]
+CALLS = [*COPYING, sha1_compress(8, quick=40, deep=200), *(one for n in COUNTS for one in short(n)), *two_share_forms()]
+
+# Every call at every share count, made once each to see what it leaves behind. It must leave nothing once it is cleared.
+ONCE = [replace(one, name=f"left by {one.name}", leaks=False)
+        for one in (*(one for n in (8, 4, 2, 1) for one in (hmac_sha1(n), sha1_compress(n), *short(n))), *two_share_forms())]

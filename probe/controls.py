@@ -1,4 +1,7 @@
 """Controls: code that must be flagged, and code that must not, so that a clean answer says something."""
+from dataclasses import replace
+
+from calls import COPYING
 from inputs import Call, FreshWord, FreshWords, Room, Secret, Share, Shares
 
 X, Y, SUM, CLEAR = Secret("x", 2), Secret("y", 2), Secret("x", 2, by_sum=True), Secret("x", 1)
@@ -22,6 +25,9 @@ HAND_WRITTEN = [
     Call("control: only the word handed back is open", "open_at_end", (*SHARES_OF_X, Room(1)), hands_back=Room(1)),
     Call("control: another word is open as well", "open_and_more", (*SHARES_OF_X, *SHARES_OF_Y, Room(1)), hands_back=Room(1), leaks=True),
 ]
+
+# wide_copy.s: the calls that copy chains, as they are made of the archive itself
+WIDE = [replace(call, name=f"control: {call.name}, copies of 16 bytes at a time", leaks=True) for call in COPYING]
 
 
 def trial(leaks):

@@ -139,6 +139,7 @@ class Call:
     number: int | None = None
     hands_back: Room | None = None
     only_lent: bool = False
+    leaves: bool = False
     leaks: bool = False
 
 

@@ -9,9 +9,11 @@ import time
 from collections import Counter, defaultdict
 from concurrent.futures import ThreadPoolExecutor
 from dataclasses import dataclass
+from typing import Any, Callable
 
 import calls
 import controls
+import left
 from image import Image
 from tracer import FLAGS, REGISTER, SECRETS, WORD, Stopped, Tracer, compile_tracer, text_of
 
@@ -19,6 +21,17 @@ REGISTERS = "rax rcx rdx rbx rsp rbp rsi rdi r8 r9 r10 r11 r12 r13 r14 r15".spli
 FLAG_NAMES = "CF PF ZF SF OF".split()
 WEIGHT_TEST, PARITY_TEST = 44, 46
 FEWEST = 40  # runs for each secret: with fewer, hardly anything could be seen
+
+
+@dataclass
+class Job:
+    """A call, in which image it stands, and how it is looked at."""
+
+    examine: Callable
+    library: str
+    image: Image
+    call: Any
+    options: argparse.Namespace
 
 
 @dataclass
@@ -99,13 +112,10 @@ def judge(call, leaks, fault, text, lines):
 
 
 def examine(job):
-    """One call, once in a process."""
-    library, image, call, runs, options = job
-    start = time.time()
-    try:
-        measured = Tracer(library, image, call, options.seed).measure(runs)
-    except Stopped as stopped:
-        return judge(call, stopped.leak, not stopped.leak, str(stopped), [])
+    """One call, once in a process: what depends on its secrets."""
+    library, image, call, options = job.library, job.image, job.call, job.options
+    start, runs = time.time(), options.runs or (call.deep if options.deep else call.quick)
+    measured = Tracer(library, image, call, options.seed).measure(runs)
     faults = [f"    {fault}" for fault in faults_of(image, call, measured)]
     lines = list(leak_lines(library, image, measured, options.show))
     if measured.moved[0]:
@@ -116,8 +126,19 @@ def examine(job):
     return outcome
 
 
+def examine_left(job):
+    """One call, once in a process: what it leaves behind, which must be nothing once it is cleared."""
+    found = left.measure(job.library, job.image, job.call, job.options.seed)
+    fault = job.call.leaves and not found.telling
+    text = f"{found.stack} bytes of stack; it leaves {found.telling} bytes that change with the secret; cleared, {found.kept} that are not 0"
+    return judge(job.call, found.kept > 0, fault, text, [])
+
+
 def send_outcome(sender, job):
-    sender.send(examine(job))
+    try:
+        sender.send(job.examine(job))
+    except Stopped as stopped:
+        sender.send(judge(job.call, stopped.leak, not stopped.leak, str(stopped), []))
 
 
 def in_own_process(job):
@@ -129,7 +150,7 @@ def in_own_process(job):
     try:
         return receiver.recv()
     except EOFError:
-        return judge(job[2], False, True, "the tracer broke off", [])
+        return judge(job.call, False, True, "the tracer broke off", [])
     finally:
         process.join()
 
@@ -143,18 +164,19 @@ def totals(outcomes, seconds):
 
 
 def jobs_of(library, options):
-    tables = [(options.archive, calls.CALLS), (options.controls, controls.HAND_WRITTEN)]
-    tables += [(options.veiled, controls.trial(leaks=False)), (options.unveiled, controls.trial(leaks=True))]
-    for file, table in tables:
+    tables = [(examine, options.archive, calls.CALLS), (examine, options.wide, controls.WIDE), (examine, options.controls, controls.HAND_WRITTEN)]
+    tables += [(examine, options.veiled, controls.trial(leaks=False)), (examine, options.unveiled, controls.trial(leaks=True))]
+    tables += [(examine_left, options.archive, calls.ONCE)]
+    for look, file, table in tables:
         image = Image(file) if file else None
         for call in table if file else ():
             if options.only in call.name:
-                yield library, image, call, options.runs or (call.deep if options.deep else call.quick), options
+                yield Job(look, library, image, call, options)
 
 
 def untested(archive):
-    """Functions of the archive that no call is for. The queries, which end so, take no secret."""
-    known = {call.function for call in calls.CALLS}
+    """Functions of the archive that no call is for. The queries, which end so, take no secret; the clearing is looked at after each call."""
+    known = {call.function for call in calls.CALLS} | {left.CLEAR}
     names = [name for _, name, _ in Image(archive).functions if name.startswith("flamivorse_") and not name.endswith("_words")]
     return [Outcome("error", False, [f"NOT AS EXPECTED: no call of {name} is tested"]) for name in names if name not in known]
 
@@ -162,6 +184,7 @@ def untested(archive):
 def options_given():
     parser = argparse.ArgumentParser(description=__doc__)
     parser.add_argument("archive", nargs="?", help="libflamivorse.a, to be tested")
+    parser.add_argument("--wide", metavar="ARCHIVE", help="the same with wide_copy.s in place of its own copy")
     parser.add_argument("--controls", metavar="OBJECT", help="controls.s, assembled")
     parser.add_argument("--veiled", metavar="ARCHIVE", help="trial.rattle with the veil")
     parser.add_argument("--unveiled", metavar="ARCHIVE", help="trial.rattle with a veil that adds nothing")

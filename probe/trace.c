@@ -1,7 +1,8 @@
 // Runs a function of an x86-64 image under Unicorn, and hands each value that its instructions leave to count.c.
 //
 // The first run takes down the path and which steps are kept. In later runs the engine `watched` stops at every instruction of the
-// kept steps; between them `fast` runs, which only compares the path at every jump. Both work on the same memory.
+// kept steps; between them `fast` runs, which only compares the path at every jump; `plain` runs a call and stops at nothing. All work on
+// the same memory.
 #include "trace.h"
 #include <stdlib.h>
 #include <string.h>
@@ -9,6 +10,7 @@
 
 #define STACK 0x70000000ull
 #define STACK_LENGTH 0x40000ull
+#define TOP (STACK + STACK_LENGTH - PAGE - 8)   // where the stack stands when a call begins: at the place to return to
 #define RETURN 0x6ffff000ull
 enum { PAGE = 4096, SAMPLE = 512 };
 enum { GAP = 256 };                          // so many steps that are not kept are worth a change of engine
@@ -18,7 +20,7 @@ typedef struct { uint64_t at, length; uint8_t *bytes; } Region;
 typedef struct { uint64_t from, to; } Window;
 typedef struct { uint32_t size, steps; } Block;
 
-static uc_engine *watched, *fast;
+static uc_engine *watched, *fast, *plain;
 static Region image, data, stack;
 static uint8_t *image_as_linked;
 static Instruction *instructions;            // by offset in the image
@@ -290,7 +292,7 @@ static uc_err open_engine(uc_engine **engine, int hook_type, void *hook) {
         | uc_mem_map_ptr(*engine, data.at, data.length, UC_PROT_READ | UC_PROT_WRITE, data.bytes)
         | uc_mem_map_ptr(*engine, stack.at, stack.length, UC_PROT_READ | UC_PROT_WRITE, stack.bytes)
         | uc_mem_map(*engine, RETURN, PAGE, UC_PROT_ALL)
-        | uc_hook_add(*engine, &handle, hook_type, hook, NULL, 1, 0);
+        | (hook ? uc_hook_add(*engine, &handle, hook_type, hook, NULL, 1, 0) : 0);
 }
 
 static Region region(uint64_t at, uint64_t length) {
@@ -318,19 +320,20 @@ int probe_open(uint64_t image_at, const uint8_t *linked, uint64_t image_length, 
     handed_at = handed;
     handed_length = handed_bytes;
     counts_open(secrets, handed_bytes);
-    return decoder_open() || open_engine(&watched, UC_HOOK_CODE, on_instruction) || open_engine(&fast, UC_HOOK_BLOCK, on_block);
+    return decoder_open() || open_engine(&watched, UC_HOOK_CODE, on_instruction) || open_engine(&fast, UC_HOOK_BLOCK, on_block)
+        || open_engine(&plain, 0, NULL);
 }
 
 // Fresh memory and registers: up to six arguments in registers, others on the stack behind the place of the return.
 static void prepare(const uint64_t *arguments, int count, const uint8_t *on_stack, uint64_t on_stack_length, const uint8_t *bytes) {
     static const int order[6] = { 7, 6, 2, 1, 8, 9 };
     static const uint64_t zero[2];
-    uint64_t top = STACK + STACK_LENGTH - PAGE - 8, back = RETURN;
+    uint64_t top = TOP, back = RETURN;
     memcpy(image.bytes, image_as_linked, image.length);
     memcpy(data.bytes, bytes, data.length);
     memset(stack.bytes, 0, stack.length);
-    memcpy(stack.bytes + (top - STACK), &back, 8);
-    memcpy(stack.bytes + (top - STACK) + 8, on_stack, on_stack_length);
+    memcpy(stack.bytes + (TOP - STACK), &back, 8);
+    memcpy(stack.bytes + (TOP - STACK) + 8, on_stack, on_stack_length);
     for (int number = 0; number < REGISTERS; number++)
         uc_reg_write(watched, unicorn_number(number), zero);
     for (int i = 0; i < count; i++)
@@ -357,6 +360,29 @@ int probe_run(int secret, uint64_t entry, const uint64_t *arguments, int count, 
     if (!ending && (step != path_length || counts_end_run(secret, data.bytes + handed_at)))
         ending = OTHER_PATH;
     return ending;
+}
+
+// One call over a stack full of `paint`, then `clear` from the same place (0: nothing); not 0 where the emulator stops. `left` is given the
+// stack below the caller, its length, all registers, and what the data then are.
+int probe_left(uint64_t entry, uint64_t clear, const uint64_t *arguments, int count, const uint8_t *on_stack, uint64_t on_stack_length,
+               const uint8_t *bytes, uint8_t paint, const uint8_t **left, uint64_t *length, uint64_t registers[REGISTERS][2],
+               const uint8_t **data_after) {
+    const uint64_t top = TOP, back = RETURN;
+    prepare(arguments, count, on_stack, on_stack_length, bytes);
+    memset(stack.bytes, paint, TOP - STACK);
+    carry_over(watched, plain);
+    uc_err error = uc_emu_start(plain, entry, RETURN, 0, 0);
+    if (clear && !error) {
+        uc_reg_write(plain, UC_X86_REG_RSP, &top);
+        memcpy(stack.bytes + (TOP - STACK), &back, 8);
+        error = uc_emu_start(plain, clear, RETURN, 0, 0);
+    }
+    for (int number = 0; number < REGISTERS; number++)
+        read_register(plain, number, registers[number]);
+    *left = stack.bytes;
+    *length = TOP - STACK;
+    *data_after = data.bytes;
+    return error;
 }
 
 // Steps of the path; values that the decoder missed and addresses that differed from run to run, and where.

@@ -93,16 +93,16 @@ class Tracer:
         if ending:
             why = "loses the path" if ending == LOST else f"stops with error {ending - EMULATOR}"
             raise Stopped(f"the emulator {why} at {self.image.place(result[1])}", leak=False)
-        number = self.number(frame, result[0], after)
-        if self.call.number not in (None, number):
-            raise Stopped(f"it answers {number}, not {self.call.number}", leak=False)
+        self.accept(frame, result[0], after)
 
-    def number(self, frame, answer, after):
-        """The number that was handed back: in the answer, or at the start of a struct in memory."""
+    def accept(self, frame, answer, after):
+        """Stops where another number was handed back than expected: in the answer, or at the start of a struct in memory."""
+        number = answer & 0xFFFFFFFF
         for argument in self.call.arguments:
             if isinstance(argument, Result):
-                return int.from_bytes(bytes(after[frame.offsets[argument] + i] for i in range(4)), "little")
-        return answer & 0xFFFFFFFF
+                number = int.from_bytes(bytes(after[frame.offsets[argument] + i] for i in range(4)), "little")
+        if self.call.number not in (None, number):
+            raise Stopped(f"it answers {number}, not {self.call.number}", leak=False)
 
     def measure(self, runs):
         for run in range(runs * SECRETS + 1):  # the first is for the path alone

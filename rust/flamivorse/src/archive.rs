@@ -7,6 +7,8 @@ use std::fmt;
 use zeroize::Zeroize;
 
 #[cfg(test)]
+mod cleared_tests;
+#[cfg(test)]
 mod header_tests;
 #[cfg(test)]
 mod refusal_tests;
@@ -68,14 +70,28 @@ pub(crate) struct Compressed {
     pub(crate) chain: Chain,
 }
 
-/// Calls a function that takes numbers, reads slices, writes one slice and draws words. In each
-/// place the caller has a `&[T]` or, for what is written, a `&mut [T]`.
+/// Makes calls that see a secret, and then clears what they left: on the stack, their own frame
+/// among it, and in registers.
+pub(crate) fn cleared<T>(calls: impl FnOnce() -> T) -> T {
+    let answer = in_own_frame(calls);
+    // SAFETY: it writes below this frame alone, where nothing is kept any more.
+    unsafe { flamivorse_clear_stack() };
+    answer
+}
+
+#[inline(never)]
+fn in_own_frame<T>(calls: impl FnOnce() -> T) -> T {
+    calls()
+}
+
+/// Calls a function that takes numbers, reads slices, writes one slice and draws words, and clears
+/// after it. In each place the caller has a `&[T]` or, for what is written, a `&mut [T]`.
 macro_rules! call {
     ($function:ident($($value:expr),*), reads [$($input:expr),*], writes $output:expr, draws $words:expr) => {{
         let (output, words) = (&mut *$output, $words);
         // SAFETY: of Rust's slices all elements are there, no pointer is null, and what is written
         // overlaps nothing else.
-        unsafe {
+        $crate::archive::cleared(|| unsafe {
             $crate::archive::$function(
                 $($value,)*
                 $($input.as_ptr(), $input.len(),)*
@@ -84,7 +100,7 @@ macro_rules! call {
                 words.as_ptr(),
                 words.len(),
             )
-        }
+        })
     }};
 }
 
@@ -144,4 +160,6 @@ extern "C" {
     pub(crate) fn flamivorse_split_key_words(n: usize, key_len: usize) -> Answer;
     pub(crate) fn flamivorse_sha1_compress_words(n: usize) -> Answer;
     pub(crate) fn flamivorse_hmac_sha1_words(n: usize, message_len: usize) -> Answer;
+
+    pub(crate) fn flamivorse_clear_stack();
 }

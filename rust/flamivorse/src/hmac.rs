@@ -1,7 +1,7 @@
 //! SHA-1 and HMAC-SHA-1 on shares, and a key that is kept in shares.
 
 use crate::answer::drawn;
-use crate::archive::{call, flamivorse_sha1_compress, queries, query};
+use crate::archive::{call, cleared, flamivorse_sha1_compress, queries, query};
 use crate::{Chain, Drawn, Refusal};
 use std::fmt;
 use zeroize::Zeroizing;
@@ -44,6 +44,10 @@ pub fn split_key(
 /// One compression of SHA-1: the chain becomes the chain after the block, which has 16n words. A
 /// refusal leaves the chain as it came.
 ///
+/// The archive takes and gives the chain by value, so Rust's compiler copies it in registers as wide
+/// as it likes, with all shares of a word in one. [`hmac_sha1`] keeps its chains inside the archive,
+/// which copies one share at a time.
+///
 /// ```
 /// use flamivorse::{sha1_compress, Chain};
 ///
@@ -62,20 +66,21 @@ pub fn sha1_compress(
     block: &[u32],
     words: &[u32],
 ) -> Result<Drawn, Refusal> {
-    let given = chain.clone();
-    // SAFETY: both are slices of Rust's, the chain goes by value, and nothing is written.
-    let answer = unsafe {
-        flamivorse_sha1_compress(
-            n,
-            given,
-            block.as_ptr(),
-            block.len(),
-            words.as_ptr(),
-            words.len(),
-        )
-    };
-    *chain = answer.chain;
-    drawn(answer.number, answer.drawn)
+    cleared(|| {
+        // SAFETY: both are slices of Rust's, the chain goes by value, and nothing is written.
+        let answer = unsafe {
+            flamivorse_sha1_compress(
+                n,
+                chain.clone(),
+                block.as_ptr(),
+                block.len(),
+                words.as_ptr(),
+                words.len(),
+            )
+        };
+        *chain = answer.chain;
+        drawn(answer.number, answer.drawn)
+    })
 }
 
 /// The HMAC-SHA-1 tag of a whole message of at most [`MESSAGE_LIMIT`] bytes, under a key of 16n

@@ -4,7 +4,7 @@
 //! Every slice has n words where nothing else is said. Each call tests its share count, then its
 //! inputs, its output and its words.
 
-use crate::archive::{call, flamivorse_open_sum, flamivorse_open_xor, queries};
+use crate::archive::{call, cleared, flamivorse_open_sum, flamivorse_open_xor, queries};
 use crate::{Drawn, Refusal};
 
 /// Splits a value into n Boolean shares.
@@ -29,7 +29,7 @@ pub fn split(n: usize, value: u32, shares: &mut [u32], words: &[u32]) -> Result<
 /// ```
 pub fn open_xor(n: usize, shares: &[u32]) -> Result<u32, Refusal> {
     // SAFETY: the shares are a slice of Rust's, and nothing is written.
-    unsafe { flamivorse_open_xor(n, shares.as_ptr(), shares.len()) }.result()
+    cleared(|| unsafe { flamivorse_open_xor(n, shares.as_ptr(), shares.len()) }).result()
 }
 
 /// Opens n arithmetic shares: their sum modulo 2^32.
@@ -39,7 +39,7 @@ pub fn open_xor(n: usize, shares: &[u32]) -> Result<u32, Refusal> {
 /// ```
 pub fn open_sum(n: usize, shares: &[u32]) -> Result<u32, Refusal> {
     // SAFETY: the shares are a slice of Rust's, and nothing is written.
-    unsafe { flamivorse_open_sum(n, shares.as_ptr(), shares.len()) }.result()
+    cleared(|| unsafe { flamivorse_open_sum(n, shares.as_ptr(), shares.len()) }).result()
 }
 
 /// Writes to `y` fresh Boolean shares of what `x` shares.

@@ -207,9 +207,11 @@ mod tests {
         text[end..].starts_with('(').then(|| text[..end].into())
     }
 
+    /// All but the clearing, which takes nothing and hands nothing back; every safe call makes it.
     #[test]
     fn every_function_of_the_header_is_in_the_table() {
         let functions = HEADER.split("flamivorse_").skip(1).filter_map(function);
+        let functions = functions.filter(|name| name != "clear_stack");
         let table = all_possible().into_keys().collect();
         assert_eq!(functions.collect::<BTreeSet<_>>(), table);
     }

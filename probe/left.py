@@ -1,0 +1,44 @@
+"""What a call leaves behind, on the stack below its caller and in registers, and that flamivorse_clear_stack clears all of it."""
+import ctypes
+from dataclasses import dataclass
+
+from inputs import Inputs
+from tracer import SECRETS, Stopped, Tracer, u64
+
+PAINT = b"\xa5"
+STACK_POINTER = 4  # of the registers; trace.h has their order
+CLEAR = "flamivorse_clear_stack"
+Bytes = ctypes.POINTER(ctypes.c_uint8)
+
+
+@dataclass
+class Left:
+    """Bytes of stack that a call took; bytes left after it that change with the secret alone; bytes left that are not 0, once it is cleared."""
+
+    stack: int
+    telling: int
+    kept: int
+
+
+def left_by(tracer, which, clear, seed):
+    """The stack that was written and all registers, after one call with one of the secrets. Masks and words are always the same."""
+    frame = Inputs(tracer.call, SECRETS, seed).draw(which)
+    stack, data, length, registers = Bytes(), Bytes(), u64(), ((u64 * 2) * 32)()
+    arguments = (u64 * len(frame.registers))(*frame.registers)
+    given = (arguments, len(arguments), frame.stack, u64(len(frame.stack)), frame.data, PAINT[0])
+    found = (ctypes.byref(stack), ctypes.byref(length), registers, ctypes.byref(data))
+    if tracer.library.probe_left(u64(tracer.entry), u64(clear), *given, *found):
+        raise Stopped("the emulator stops", leak=False)
+    if not clear:
+        tracer.accept(frame, registers[0][0], data)
+    others = b"".join(bytes(value) for number, value in enumerate(registers) if number != STACK_POINTER)
+    return ctypes.string_at(stack, length.value).lstrip(PAINT), others
+
+
+def measure(library, image, call, seed):
+    """What one call leaves as it is, and cleared."""
+    tracer = Tracer(library, image, call, seed)
+    (stack, registers), (stack_too, registers_too) = (left_by(tracer, which, 0, seed) for which in (2, 3))
+    pairs = zip(reversed(stack + registers), reversed(stack_too + registers_too))
+    cleared = b"".join(left_by(tracer, 2, image.entry(CLEAR), seed))
+    return Left(len(stack), sum(one != other for one, other in pairs), sum(byte != 0 for byte in cleared))
