@@ -50,7 +50,7 @@ def sha1_compress(n, quick=0, deep=0):
 
 def conversions(n):
     arithmetic, x = Secret("x", n, by_sum=True), Secret("x", n)
-    kept = {"quick": 1000, "deep": 10000, **sampled(n, 2039, most=4)}
+    kept = {"quick": 1000 if n < 8 else 400, "deep": 10000 if n < 8 else 4000, **sampled(n, 2039, most=4)}
     return [
         call("b2a", n, (Shares(x), Room(n), FreshWords(b2a_words(n))), **kept),
         call("a2b", n, (Shares(arithmetic), Room(n), FreshWords(a2b_words(n))), **kept),

@@ -15,12 +15,11 @@ import calls
 import controls
 import left
 from image import Image
-from tracer import FLAGS, REGISTER, SECRETS, WORD, Stopped, Tracer, compile_tracer, text_of
+from tracer import FEWEST, FLAGS, REGISTER, SECRETS, WORD, Stopped, Tracer, compile_tracer, text_of
 
 REGISTERS = "rax rcx rdx rbx rsp rbp rsi rdi r8 r9 r10 r11 r12 r13 r14 r15".split() + [f"xmm{i}" for i in range(16)]
 FLAG_NAMES = "CF PF ZF SF OF".split()
 WEIGHT_TEST, PARITY_TEST = 44, 46
-FEWEST = 40  # runs for each secret: with fewer, hardly anything could be seen
 
 
 @dataclass
@@ -122,7 +121,7 @@ def examine(job):
         lines.append(f"    {measured.moved[0]} times an address depends on the data, last at {image.place(measured.moved[1])}")
     leaks = bool(measured.leaks or measured.moved[0])
     outcome = judge(call, leaks, bool(faults), summary(measured, time.time() - start), faults + lines)
-    outcome.values, outcome.runs = measured.values, SECRETS * runs
+    outcome.values, outcome.runs = measured.values, SECRETS * measured.runs
     return outcome
 
 

@@ -10,6 +10,7 @@ from inputs import DATA, Inputs, Result
 
 HERE = os.path.dirname(os.path.abspath(__file__))
 SECRETS = 4
+FEWEST = 40  # runs for each secret: with fewer, hardly anything could be seen
 FALSE_ALARM = 1e-5  # for a whole call
 SPREAD = 7919  # with another seed other steps are sampled
 WORD, WEIGHT, FLAGS = range(3)
@@ -105,8 +106,20 @@ class Tracer:
             raise Stopped(f"it answers {number}, not {self.call.number}", leak=False)
 
     def measure(self, runs):
-        for run in range(runs * SECRETS + 1):  # the first is for the path alone
-            self.run(run % SECRETS)
+        """So many runs for each secret; of a call that must be flagged, the fewest if these show it."""
+        self.run(0)  # for the path alone
+        done = 0
+        while done < runs:
+            goal = min(runs, FEWEST) if self.call.leaks and not done else runs
+            for run in range(done * SECRETS, goal * SECRETS):
+                self.run(run % SECRETS)
+            done = goal
+            measured = self.measured(done)
+            if measured.leaks:
+                break
+        return measured
+
+    def measured(self, runs):
         findings, tests, state = (Finding * max(1, self.library.probe_values()))(), u64(), (u64 * 5)()
         found = findings[: self.library.probe_findings(findings, ctypes.byref(tests))]
         self.library.probe_state(state)

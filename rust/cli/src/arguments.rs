@@ -39,8 +39,9 @@ Options:
 A log has at most 4,096 bytes.
 
 Exit status: 0 if all was done and every tag was right; 1 if a tag was not
-right; 2 if something could not be done, and standard error says why. A refusal
-of the library is told by its number and in words.
+right, or a list had none, whatever else happened; 2 if something could not be
+done, and standard error says why. A refusal of the library is told by its
+number and in words.
 ";
 
 /// A run of the program.
