@@ -1,7 +1,8 @@
 # Makes what users link.
 #
-#   make lib    target/lib/libflamivorse.a: the functions that rt proves and compiles, whole. It needs no other library: where the
-#               compiler calls memcpy and memset, the archive calls its own (archive/), under names that no program sees.
+#   make lib    target/lib/libflamivorse.a: the functions that rt proves and compiles, whole. It needs no other
+#               library: where the compiler calls memcpy and memset, the archive calls its own (archive/), under
+#               names that no program sees.
 
 OBJCOPY ?= objcopy
 NM ?= nm

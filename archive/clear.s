@@ -1,5 +1,6 @@
-# The archive's own clearing, x86-64: what stands where the compiler calls memset (the Makefile renames these calls), and the call that clears
-# what others have left behind. No proof speaks of these lines: tests/memory.c and the probe do.
+# The archive's own clearing, x86-64: what stands where the compiler calls memset (the Makefile renames these calls),
+# and the call that clears what others have left behind. No proof speaks of these lines: tests/memory.c and the probe
+# do.
     .intel_syntax noprefix
     .text
     .globl private_fill
@@ -31,7 +32,7 @@ private_fill:
 
     .globl flamivorse_clear_stack
     .type flamivorse_clear_stack, @function
-    .equ BELOW, 8192                        # bytes: more than any call takes, with room for the frame that made it (probe/left.py)
+    .equ BELOW, 8192        # bytes: more than any call takes (probe/left.py), with room for the frame that made it
 
 # () -> nothing: zeros in the stack below the caller, and in every register that a call may leave changed
 flamivorse_clear_stack:

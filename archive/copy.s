@@ -1,6 +1,6 @@
-# The archive's own copy, x86-64: it stands where the compiler calls memcpy (the Makefile renames these calls). It moves 32 bits at a time, in
-# order, and the last bytes one by one, so that no register ever holds two shares; a C library's copy moves many at once. No proof speaks of
-# these lines: tests/memory.c and the probe do.
+# The archive's own copy, x86-64: it stands where the compiler calls memcpy (the Makefile renames these calls). It
+# moves 32 bits at a time, in order, and the last bytes one by one, so that no register ever holds two shares; a C
+# library's copy moves many at once. No proof speaks of these lines: tests/memory.c and the probe do.
     .intel_syntax noprefix
     .text
     .globl private_copy

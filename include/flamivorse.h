@@ -22,12 +22,14 @@
  *   5  fewer words are lent than the call draws
  * A refusal reports 0 words drawn and leaves every slice as it came.
  *
- * What stays behind: a call leaves shares on the stack below its caller and in registers, and flamivorse_split_key bytes of the plain key.
- * flamivorse_clear_stack clears both. What a program keeps in its own variables is its own to clear.
+ * What stays behind: a call leaves shares on the stack below its caller and in registers, and flamivorse_split_key
+ * bytes of the plain key. flamivorse_clear_stack clears both. What a program keeps in its own variables is its own to
+ * clear.
  *
- * By value: a chain that is passed or handed back is copied by the caller's compiler, in registers as wide as it likes, so that all shares
- * of a word may stand in one, and copies of it stay in the caller's frame. No call can prevent that. Where it matters, use
- * flamivorse_hmac_sha1: its chains never leave the archive, which copies one share at a time.
+ * By value: a chain that is passed or handed back is copied by the caller's compiler, in registers as wide as it
+ * likes, so that all shares of a word may stand in one, and copies stay in the caller's frame. No call can prevent
+ * that. Where it matters, use flamivorse_hmac_sha1: its chains never leave the archive, which copies one share at a
+ * time.
  */
 #ifndef FLAMIVORSE_H
 #define FLAMIVORSE_H
@@ -137,8 +139,9 @@ flamivorse_answer flamivorse_split_key_words(size_t n, size_t key_len);
 flamivorse_answer flamivorse_sha1_compress_words(size_t n);
 flamivorse_answer flamivorse_hmac_sha1_words(size_t n, size_t message_len);
 
-/* Clears what calls have left behind: 8,192 bytes of stack below its caller, more than any call takes, and every register that a call may
- * change. To be called from the function that made the calls, after the last that saw a secret. */
+/* Clears what calls have left behind: 8,192 bytes of stack below its caller, more than any call takes, and every
+ * register that a call may change. To be called from the function that made the calls, after the last that saw a
+ * secret. */
 void flamivorse_clear_stack(void);
 
 #ifdef __cplusplus

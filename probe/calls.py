@@ -3,8 +3,6 @@ from dataclasses import replace
 
 from inputs import Call, FreshWord, FreshWords, Number, Result, Room, Secret, Share, Shares, SharesByValue, Text
 
-COUNTS = (8, 4, 2)
-
 
 def add_words(n):
     return 16 * n * (n - 1)
@@ -27,16 +25,16 @@ def call(name, n, arguments, **more):
     return Call(f"{name}, {n} shares", f"flamivorse_{name}", (Number(n), *arguments), number=0, **more)
 
 
-def sampled(n, sample, most):
-    """Of a long call with n shares, the first visits of each instruction and samples; of one with fewer than `most`, every step."""
-    return {"visits": 4, "sample": sample} if n >= most else {}
+def sampled(n, sample, least):
+    """Of a call with so many shares or more, the first visits of each instruction and samples; else every step."""
+    return {"visits": 4, "sample": sample} if n >= least else {}
 
 
 def hmac_sha1(n, quick=0, deep=0):
     """The tag of three bytes: four compressions. Its bytes are handed back in the clear, and nothing else may be."""
     key, tag = Secret("key", n, words=16), Room(20, width=8)
     arguments = (Shares(key), Text(b"abc"), tag, FreshWords(4 * compress_words(n)))
-    kept = sampled(n, 40009 * n, most=1)
+    kept = sampled(n, 40009 * n, least=1)
     return call("hmac_sha1", n, arguments, hands_back=tag, leaves=n > 1, quick=quick, deep=deep, **kept)
 
 
@@ -44,13 +42,13 @@ def sha1_compress(n, quick=0, deep=0):
     """The chain is a struct passed by value, and the answer (number, count and chain) is written where the first argument says."""
     chain, block = Secret("chain", n, words=5), Secret("block", n, words=16)
     arguments = (Result(44), Number(n), SharesByValue(chain, 40), Shares(block), FreshWords(compress_words(n)))
-    kept = {"quick": quick, "deep": deep, **sampled(n, 10007 * n, most=1)}
+    kept = {"quick": quick, "deep": deep, **sampled(n, 10007 * n, least=1)}
     return Call(f"sha1_compress, {n} shares", "flamivorse_sha1_compress", arguments, number=0, leaves=True, **kept)
 
 
 def conversions(n):
     arithmetic, x = Secret("x", n, by_sum=True), Secret("x", n)
-    kept = {"quick": 1000 if n < 8 else 400, "deep": 10000 if n < 8 else 4000, **sampled(n, 2039, most=4)}
+    kept = {"quick": 1000 if n < 8 else 400, "deep": 10000 if n < 8 else 4000, **sampled(n, 2039, least=4)}
     return [
         call("b2a", n, (Shares(x), Room(n), FreshWords(b2a_words(n))), **kept),
         call("a2b", n, (Shares(arithmetic), Room(n), FreshWords(a2b_words(n))), **kept),
@@ -60,7 +58,7 @@ def conversions(n):
 def operations(n):
     x, y = Secret("x", n), Secret("y", n)
     return [
-        call("add", n, (Shares(x), Shares(y), Room(n), FreshWords(add_words(n))), quick=2000, **sampled(n, 2039, most=8)),
+        call("add", n, (Shares(x), Shares(y), Room(n), FreshWords(add_words(n))), quick=2000, **sampled(n, 2039, 8)),
         call("and", n, (Shares(x), Shares(y), Room(n), FreshWords(n * (n - 1) // 2))),
         call("expand", n, (Shares(x), Room(2 * n), FreshWords(n))),
         call("refresh", n, (Shares(x), Room(n), FreshWords(n - 1))),
@@ -107,8 +105,9 @@ COPYING = [
     sha1_compress(4, quick=100, deep=500),
     sha1_compress(2, quick=200, deep=2000),
 ]
-CALLS = [*COPYING, sha1_compress(8, quick=40, deep=200), *(one for n in COUNTS for one in short(n)), *two_share_forms()]
+SHORT = [one for n in (8, 4, 2) for one in short(n)]
+CALLS = [*COPYING, sha1_compress(8, quick=40, deep=200), *SHORT, *two_share_forms()]
 
-# Every call at every share count, made once each to see what it leaves behind. It must leave nothing once it is cleared.
-ONCE = [replace(one, name=f"left by {one.name}", leaks=False)
-        for one in (*(one for n in (8, 4, 2, 1) for one in (hmac_sha1(n), sha1_compress(n), *short(n))), *two_share_forms())]
+# Every call at every share count, made once each to see what it leaves behind: nothing, once it is cleared.
+EVERY = [one for n in (8, 4, 2, 1) for one in (hmac_sha1(n), sha1_compress(n), *short(n))]
+ONCE = [replace(one, name=f"left by {one.name}", leaks=False) for one in (*EVERY, *two_share_forms())]

@@ -164,7 +164,8 @@ static void test_part(const Value *value, int column, int shift, int bits, int t
         strongest->ones[secret] = bits == 1 ? table[1][secret] : 0;
 }
 
-// All tests of a column; how many. The lowest bit of a weight is the parity: of all shares of a word it is that of the secret.
+// All tests of a column; how many. The lowest bit of a weight is the parity, which all shares of a word have in common
+// with the secret.
 static uint64_t test_column(const Value *value, int column, Finding *strongest) {
     int byte = value->kind == WORD && column < 4, flags = value->kind == FLAGS;
     int bits = byte ? 8 : flags ? 5 : 1, nibbles = byte ? 2 : 0;

@@ -24,7 +24,8 @@ class Image:
 
     def span(self, function):
         """Where a function begins and ends; nowhere where there is none of this name."""
-        return next(((address, address + size) for address, name, size in self.functions if name == function), (None, None))
+        spans = ((address, address + size) for address, name, size in self.functions if name == function)
+        return next(spans, (None, None))
 
     def place(self, address):
         """The function and the offset in it, for people."""

@@ -1,4 +1,4 @@
-"""What a call leaves behind, on the stack below its caller and in registers, and that flamivorse_clear_stack clears all of it."""
+"""What a call leaves behind on the stack and in registers, and that flamivorse_clear_stack clears all of it."""
 import ctypes
 from dataclasses import dataclass
 
@@ -13,15 +13,15 @@ Bytes = ctypes.POINTER(ctypes.c_uint8)
 
 @dataclass
 class Left:
-    """Bytes of stack that a call took; bytes left after it that change with the secret alone; bytes left that are not 0, once it is cleared."""
+    """What was found after a call."""
 
-    stack: int
-    telling: int
-    kept: int
+    stack: int  # bytes that it took
+    telling: int  # bytes that change with the secret alone
+    kept: int  # bytes that are not 0 once it is cleared
 
 
 def left_by(tracer, which, clear, seed):
-    """The stack that was written and all registers, after one call with one of the secrets. Masks and words are always the same."""
+    """The stack that was written, and all registers, after one call with one of the secrets. All else is the same."""
     frame = Inputs(tracer.call, SECRETS, seed).draw(which)
     stack, data, length, registers = Bytes(), Bytes(), u64(), ((u64 * 2) * 32)()
     arguments = (u64 * len(frame.registers))(*frame.registers)

@@ -129,7 +129,7 @@ def examine_left(job):
     """One call, once in a process: what it leaves behind, which must be nothing once it is cleared."""
     found = left.measure(job.library, job.image, job.call, job.options.seed)
     fault = job.call.leaves and not found.telling
-    text = f"{found.stack} bytes of stack; it leaves {found.telling} bytes that change with the secret; cleared, {found.kept} that are not 0"
+    text = f"{found.stack} bytes of stack; leaves {found.telling} that change with the secret, cleared {found.kept}"
     return judge(job.call, found.kept > 0, fault, text, [])
 
 
@@ -163,9 +163,14 @@ def totals(outcomes, seconds):
 
 
 def jobs_of(library, options):
-    tables = [(examine, options.archive, calls.CALLS), (examine, options.wide, controls.WIDE), (examine, options.controls, controls.HAND_WRITTEN)]
-    tables += [(examine, options.veiled, controls.trial(leaks=False)), (examine, options.unveiled, controls.trial(leaks=True))]
-    tables += [(examine_left, options.archive, calls.ONCE)]
+    tables = [
+        (examine, options.archive, calls.CALLS),
+        (examine_left, options.archive, calls.ONCE),
+        (examine, options.wide, controls.WIDE),
+        (examine, options.controls, controls.HAND_WRITTEN),
+        (examine, options.veiled, controls.trial(leaks=False)),
+        (examine, options.unveiled, controls.trial(leaks=True)),
+    ]
     for look, file, table in tables:
         image = Image(file) if file else None
         for call in table if file else ():
@@ -174,10 +179,11 @@ def jobs_of(library, options):
 
 
 def untested(archive):
-    """Functions of the archive that no call is for. The queries, which end so, take no secret; the clearing is looked at after each call."""
+    """Functions of the archive that no call is for. The queries, which end so, take no secret."""
     known = {call.function for call in calls.CALLS} | {left.CLEAR}
-    names = [name for _, name, _ in Image(archive).functions if name.startswith("flamivorse_") and not name.endswith("_words")]
-    return [Outcome("error", False, [f"NOT AS EXPECTED: no call of {name} is tested"]) for name in names if name not in known]
+    names = {name for _, name, _ in Image(archive).functions if name.startswith("flamivorse_")} - known
+    names = sorted(name for name in names if not name.endswith("_words"))
+    return [Outcome("error", False, [f"NOT AS EXPECTED: no call of {name} is tested"]) for name in names]
 
 
 def options_given():

@@ -1,8 +1,8 @@
 // Runs a function of an x86-64 image under Unicorn, and hands each value that its instructions leave to count.c.
 //
 // The first run takes down the path and which steps are kept. In later runs the engine `watched` stops at every instruction of the
-// kept steps; between them `fast` runs, which only compares the path at every jump; `plain` runs a call and stops at nothing. All work on
-// the same memory.
+// kept steps; between them `fast` runs, which only compares the path at every jump; `plain` runs a call and stops at
+// nothing. All work on the same memory.
 #include "trace.h"
 #include <stdlib.h>
 #include <string.h>
@@ -160,7 +160,8 @@ static void lengthen_path(uint64_t address) {
         kept = realloc(kept, path_room);
         touched_first = realloc(touched_first, path_room * sizeof *touched_first);
     }
-    int sampled = sample_every && (path_length + sample_from) % sample_every < SAMPLE, copies = address >= copy_from && address < copy_to;
+    int sampled = sample_every && (path_length + sample_from) % sample_every < SAMPLE;
+    int copies = address >= copy_from && address < copy_to;
     kept[path_length] = !visits_kept || visits[address - image.at]++ < visits_kept || sampled || copies;
     path[path_length++] = address;
 }
@@ -301,8 +302,8 @@ static Region region(uint64_t at, uint64_t length) {
 
 // Once in a process. `handed` are the bytes of the data that the call hands back openly.
 int probe_open(uint64_t image_at, const uint8_t *linked, uint64_t image_length, uint64_t data_at, uint64_t data_length, int secrets,
-               uint32_t visits_to_keep, uint64_t every, uint64_t from, uint64_t copy, uint64_t copy_end, uint64_t handed,
-               uint64_t handed_bytes) {
+               uint32_t visits_to_keep, uint64_t every, uint64_t from, uint64_t copy, uint64_t copy_end,
+               uint64_t handed, uint64_t handed_bytes) {
     image = region(image_at, image_length);
     data = region(data_at, data_length);
     stack = region(STACK, STACK_LENGTH);
@@ -320,8 +321,8 @@ int probe_open(uint64_t image_at, const uint8_t *linked, uint64_t image_length, 
     handed_at = handed;
     handed_length = handed_bytes;
     counts_open(secrets, handed_bytes);
-    return decoder_open() || open_engine(&watched, UC_HOOK_CODE, on_instruction) || open_engine(&fast, UC_HOOK_BLOCK, on_block)
-        || open_engine(&plain, 0, NULL);
+    return decoder_open() || open_engine(&watched, UC_HOOK_CODE, on_instruction)
+        || open_engine(&fast, UC_HOOK_BLOCK, on_block) || open_engine(&plain, 0, NULL);
 }
 
 // Fresh memory and registers: up to six arguments in registers, others on the stack behind the place of the return.
@@ -362,11 +363,11 @@ int probe_run(int secret, uint64_t entry, const uint64_t *arguments, int count, 
     return ending;
 }
 
-// One call over a stack full of `paint`, then `clear` from the same place (0: nothing); not 0 where the emulator stops. `left` is given the
-// stack below the caller, its length, all registers, and what the data then are.
-int probe_left(uint64_t entry, uint64_t clear, const uint64_t *arguments, int count, const uint8_t *on_stack, uint64_t on_stack_length,
-               const uint8_t *bytes, uint8_t paint, const uint8_t **left, uint64_t *length, uint64_t registers[REGISTERS][2],
-               const uint8_t **data_after) {
+// One call over a stack full of `paint`, then `clear` from the same place (0: nothing); not 0 where the emulator
+// stops. `left` is given the stack below the caller, `length` its length, and the others what is in them then.
+int probe_left(uint64_t entry, uint64_t clear, const uint64_t *arguments, int count, const uint8_t *on_stack,
+               uint64_t on_stack_length, const uint8_t *bytes, uint8_t paint, const uint8_t **left, uint64_t *length,
+               uint64_t registers[REGISTERS][2], const uint8_t **data_after) {
     const uint64_t top = TOP, back = RETURN;
     prepare(arguments, count, on_stack, on_stack_length, bytes);
     memset(stack.bytes, paint, TOP - STACK);

@@ -30,7 +30,8 @@ typedef struct {
     int8_t number;                           // the register's
 } Value;
 
-// The strongest deviation of a value. test: 0 to 31 a bit, 32 to 39 a nibble, 40 to 43 a byte, 44 the weight, 45 all flags, 46 the parity.
+// The strongest deviation of a value. test: 0 to 31 a bit, 32 to 39 a nibble, 40 to 43 a byte, 44 the weight, 45 all
+// flags, 46 the parity.
 typedef struct {
     uint64_t step, address;
     double deviate;

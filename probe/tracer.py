@@ -97,7 +97,7 @@ class Tracer:
         self.accept(frame, result[0], after)
 
     def accept(self, frame, answer, after):
-        """Stops where another number was handed back than expected: in the answer, or at the start of a struct in memory."""
+        """Stops where another number was handed back than expected, in the answer or at the start of a struct."""
         number = answer & 0xFFFFFFFF
         for argument in self.call.arguments:
             if isinstance(argument, Result):

@@ -1,4 +1,5 @@
-# A copy as C libraries have it, 16 bytes at a time and the rest one by one: a control, built into the archive in place of archive/copy.s.
+# A copy as C libraries have it, 16 bytes at a time and the rest one by one: a control, built into the archive in place
+# of archive/copy.s.
     .intel_syntax noprefix
     .text
     .globl private_copy

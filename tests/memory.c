@@ -1,4 +1,5 @@
-/* The archive's own copy and fill (archive/), which no proof speaks of: every length and every alignment, with guards on both sides. */
+/* The archive's own copy and fill (archive/), which no proof speaks of: every length and every alignment, with guards
+ * on both sides. */
 #include <stdint.h>
 #include <stdio.h>
 #include <stdlib.h>
@@ -19,12 +20,12 @@ static void prepare(void)
     }
 }
 
-/* Ends the program where a byte is not as it must be: `made` in the room from `at` on, and as prepared around it and in the source. */
+/* Ends the program where a byte is not as it must be: `made` from `at` on, and all else as prepared. */
 static void compare(const void *answer, size_t at, const uint8_t *made, size_t length)
 {
     for (size_t i = 0; i < ROOM; i++) {
-        int inside = i >= at && i < at + length;
-        if (to[i] != (inside ? made[i - at] : (uint8_t)(i * 5 + 128)) || from[i] != (uint8_t)(i * 7 + 1) || answer != to + at) {
+        uint8_t wanted = i >= at && i < at + length ? made[i - at] : (uint8_t)(i * 5 + 128);
+        if (to[i] != wanted || from[i] != (uint8_t)(i * 7 + 1) || answer != to + at) {
             fprintf(stderr, "memory: %zu bytes at %zu: byte %zu is wrong, or the answer\n", length, at, i);
             exit(1);
         }

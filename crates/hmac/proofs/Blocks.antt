@@ -109,4 +109,3 @@ digest-made n inner d x z l lz e f =
     let rest = drop (5 * n) z in
     let none : drop (16 * n - 5 * n) rest ≡ [] = drop-of-length-le rest {i = 16 * n - 5 * n} (rw (length-drop (5 * n) z) (omega arith)) in
     rw (e, sub-zero (5 * n), take-at inner rest (5 * n) l, drop-at inner rest (5 * n) l, none, append-nil x, f)
-
