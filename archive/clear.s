@@ -37,10 +37,14 @@ private_fill:
 # () -> nothing: zeros in the stack below the caller, and in every register that a call may leave changed
 flamivorse_clear_stack:
     .cfi_startproc
+    sub rsp, BELOW
+    .cfi_adjust_cfa_offset BELOW
     xor eax, eax
-    lea rdi, [rsp - BELOW]
+    mov rdi, rsp
     mov ecx, BELOW / 8
     rep stosq
+    mov rsp, rdi
+    .cfi_adjust_cfa_offset -BELOW
     .irp register, edx, esi, edi, r8d, r9d, r10d, r11d
     xor \register, \register
     .endr

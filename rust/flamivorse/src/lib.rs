@@ -24,6 +24,10 @@
 //! their sum modulo 2^32. Of several words, share i of word w (both from 0) stands at place
 //! w·n + i.
 //!
+//! Each call that sees shares or a secret clears, when it is done, what it left on the stack and in
+//! registers. What a program keeps in its own variables is its own to clear; a [`Key`], a [`Chain`]
+//! and a [`Supply`] clear themselves.
+//!
 //! # Words
 //!
 //! Each call that draws random words takes them as a slice, uses them from its start, and says how
