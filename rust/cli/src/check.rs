@@ -66,7 +66,10 @@ pub fn check(options: &Options, lists: &[OsString]) -> Result<Status, Problem> {
             complain(Problem::file(list, error));
             tally.unlisted += 1;
         } else if tally.tags() == before {
-            complain(format_args!("{}: no tags are in it", list.to_string_lossy()));
+            complain(format_args!(
+                "{}: no tags are in it",
+                list.to_string_lossy()
+            ));
             tally.empty += 1;
         }
     }
