@@ -9,15 +9,22 @@ ghost use Rattle.rules.specs.Supply.{opened, openedSum, next, split};
 ghost use Rattle.rules.specs.Numbers.{largest};
 ghost use Rattle.rules.specs.Shares.{each, pass, along, mix, refresh, expand, cross, and, doubleXor, carries, add};
 ghost use Rattle.rules.specs.Counts.{refreshDraws, andDraws, addDraws};
+ghost use Rattle.width.specs.Width.{bits};
 use supply::draw_at;
 use veil::after;
 use veil::held;
+use width::BITS;
+use width::Word;
+use width::plus;
 
 // The largest share count: room for shares is made for so many.
 pub const LARGEST: usize = 8;
 
+// The turns of the carry loop: one less than the width.
+const TURNS: usize = BITS - 1;
+
 // y becomes x.
-pub fn copy(x: &[u32], y: &mut [u32])
+pub fn copy(x: &[Word], y: &mut [Word])
     requires { ⌜ length (now y) ≡ length (now x) ⌝ }
     ensures { λ _. ⌜ now (y .exit) ≡ now (x .entry) ⌝ }
 {
@@ -29,7 +36,7 @@ pub fn copy(x: &[u32], y: &mut [u32])
 }
 
 // x is stored into z from place `at` on.
-pub fn put(x: &[u32], z: &mut [u32], at: usize)
+pub fn put(x: &[Word], z: &mut [Word], at: usize)
     requires { ⌜ at + length (now x) ≤ length (now z) ⌝ }
     ensures { λ _. ⌜ now (z .exit) ≡ sets (now (z .entry)) at (now (x .entry)) ⌝ }
 {
@@ -41,7 +48,7 @@ pub fn put(x: &[u32], z: &mut [u32], at: usize)
 }
 
 // By shares: zi = xi XOR yi.
-pub fn xor_each(x: &[u32], y: &[u32], z: &mut [u32])
+pub fn xor_each(x: &[Word], y: &[Word], z: &mut [Word])
     requires { ⌜ (length (now y) ≡ length (now x)) × (length (now z) ≡ length (now x)) ⌝ }
     ensures { λ _. ⌜ now (z .exit) ≡ each bitXor (now (x .entry)) (now (y .entry)) ⌝ }
 {
@@ -53,7 +60,7 @@ pub fn xor_each(x: &[u32], y: &[u32], z: &mut [u32])
 }
 
 // By shares: zi = xi AND yi, the diagonal of the masked AND.
-fn and_each(x: &[u32], y: &[u32], z: &mut [u32])
+fn and_each(x: &[Word], y: &[Word], z: &mut [Word])
     requires { ⌜ (length (now y) ≡ length (now x)) × (length (now z) ≡ length (now x)) ⌝ }
     ensures { λ _. ⌜ now (z .exit) ≡ each bitAnd (now (x .entry)) (now (y .entry)) ⌝ }
 {
@@ -65,9 +72,9 @@ fn and_each(x: &[u32], y: &[u32], z: &mut [u32])
 }
 
 // By shares: zi = 2(xi XOR yi).
-fn double_xor_each(x: &[u32], y: &[u32], z: &mut [u32])
+fn double_xor_each(x: &[Word], y: &[Word], z: &mut [Word])
     requires { ⌜ (length (now y) ≡ length (now x)) × (length (now z) ≡ length (now x)) ⌝ }
-    ensures { λ _. ⌜ now (z .exit) ≡ each (doubleXor 32) (now (x .entry)) (now (y .entry)) ⌝ }
+    ensures { λ _. ⌜ now (z .exit) ≡ each (doubleXor bits) (now (x .entry)) (now (y .entry)) ⌝ }
 {
     let mut i = 0;
     while i < x.len() {
@@ -77,10 +84,10 @@ fn double_xor_each(x: &[u32], y: &[u32], z: &mut [u32])
 }
 
 // The XOR of all shares.
-pub fn open_xor(x: &[u32]) -> u32
+pub fn open_xor(x: &[Word]) -> Word
     ensures { λ r. ⌜ r ≡ opened (now (x .entry)) ⌝ }
 {
-    let mut r: u32 = 0;
+    let mut r: Word = 0;
     let mut i = x.len();
     while 0 < i {
         i -= 1;
@@ -90,7 +97,7 @@ pub fn open_xor(x: &[u32]) -> u32
 }
 
 // One draw of the refresh: the word goes into shares i and j.
-fn mix_at(i: usize, j: usize, word: u32, z: &mut [u32])
+fn mix_at(i: usize, j: usize, word: Word, z: &mut [Word])
     requires { ⌜ (i < length (now z)) × (j < length (now z)) ⌝ }
     ensures { λ _. ⌜ now (z .exit) ≡ mix i j word (now (z .entry)) ⌝ }
 {
@@ -99,7 +106,7 @@ fn mix_at(i: usize, j: usize, word: u32, z: &mut [u32])
 }
 
 // Refresh in place, from the word at `at` on; the place after.
-pub fn refresh_at(y: &mut [u32], words: &[u32], at: usize) -> usize
+pub fn refresh_at(y: &mut [Word], words: &[Word], at: usize) -> usize
     requires { ⌜ (0 < length (now y)) × (at + refreshDraws (length (now y)) ≤ length (now words)) ⌝ }
     ensures { λ r. ⌜ refresh (now (y .entry)) (now (words .entry)) at ≡ (now (y .exit), r) ⌝ }
 {
@@ -116,7 +123,7 @@ pub fn refresh_at(y: &mut [u32], words: &[u32], at: usize) -> usize
 }
 
 // Expand, n to 2n, from the word at `at` on; the place after.
-pub fn expand_at(x: &[u32], y: &mut [u32], words: &[u32], at: usize) -> usize
+pub fn expand_at(x: &[Word], y: &mut [Word], words: &[Word], at: usize) -> usize
     requires { ⌜ (length (now x) ≤ largest) × (length (now y) ≡ length (now x) * 2) × (at + length (now x) ≤ length (now words)) ⌝ }
     ensures { λ r. ⌜ expand (now (x .entry)) (now (words .entry)) at ≡ (now (y .exit), r) ⌝ }
 {
@@ -133,14 +140,14 @@ pub fn expand_at(x: &[u32], y: &mut [u32], words: &[u32], at: usize) -> usize
 }
 
 // Share j of the AND, zj, gets (s ⊕ (xi ∧ yj)) ⊕ (xj ∧ yi), in this order.
-fn crossed(zj: u32, s: u32, xi: u32, yj: u32, xj: u32, yi: u32, words: &[u32]) -> u32
+fn crossed(zj: Word, s: Word, xi: Word, yj: Word, xj: Word, yi: Word, words: &[Word]) -> Word
     ensures { λ r. ⌜ r ≡ bitXor zj (bitXor (bitXor s (bitAnd xi yj)) (bitAnd xj yi)) ⌝ }
 {
     zj ^ held(held(s ^ (xi & yj), words) ^ (xj & yi), words)
 }
 
 // One draw of the AND: the word s comes in for the pair i < j.
-fn cross_at(i: usize, j: usize, s: u32, x: &[u32], y: &[u32], z: &mut [u32], words: &[u32])
+fn cross_at(i: usize, j: usize, s: Word, x: &[Word], y: &[Word], z: &mut [Word], words: &[Word])
     requires { ⌜ (i < length (now x)) × (j < length (now x)) × (length (now y) ≡ length (now x)) × (length (now z) ≡ length (now x)) ⌝ }
     ensures { λ _. ⌜ now (z .exit) ≡ cross (now (x .entry)) (now (y .entry)) i j s (now (z .entry)) ⌝ }
 {
@@ -149,7 +156,7 @@ fn cross_at(i: usize, j: usize, s: u32, x: &[u32], y: &[u32], z: &mut [u32], wor
 }
 
 // The pairs (i, i+1), (i, i+2), .. of the AND.
-fn and_row(i: usize, x: &[u32], y: &[u32], z: &mut [u32], words: &[u32], at: usize) -> usize
+fn and_row(i: usize, x: &[Word], y: &[Word], z: &mut [Word], words: &[Word], at: usize) -> usize
     requires { ⌜ (i < length (now x)) × (length (now y) ≡ length (now x)) × (length (now z) ≡ length (now x)) × (at + (length (now x) - (i + 1)) ≤ length (now words)) ⌝ }
     ensures { λ r. ⌜ pass (cross (now (x .entry)) (now (y .entry))) (along (length (now (x .entry)) - (i + 1)) i (i + 1)) (now (z .entry)) (now (words .entry)) at ≡ (now (z .exit), r) ⌝ }
 {
@@ -165,7 +172,7 @@ fn and_row(i: usize, x: &[u32], y: &[u32], z: &mut [u32], words: &[u32], at: usi
 }
 
 // AND, from the word at `at` on; the place after.
-pub fn and_at(x: &[u32], y: &[u32], z: &mut [u32], words: &[u32], at: usize) -> usize
+pub fn and_at(x: &[Word], y: &[Word], z: &mut [Word], words: &[Word], at: usize) -> usize
     requires { ⌜ (length (now y) ≡ length (now x)) × (length (now z) ≡ length (now x)) × (at + andDraws (length (now x)) ≤ length (now words)) ⌝ }
     ensures { λ r. ⌜ and (now (x .entry)) (now (y .entry)) (now (words .entry)) at ≡ (now (z .exit), r) ⌝ }
 {
@@ -180,12 +187,12 @@ pub fn and_at(x: &[u32], y: &[u32], z: &mut [u32], words: &[u32], at: usize) -> 
 }
 
 // One round of the carry loop: u = 2(AND(u, a) ⊕ w).
-fn carry_round(a: &[u32], w: &[u32], u: &mut [u32], words: &[u32], at: usize) -> usize
+fn carry_round(a: &[Word], w: &[Word], u: &mut [Word], words: &[Word], at: usize) -> usize
     requires { ⌜ (length (now a) ≡ length (now u)) × (length (now w) ≡ length (now u)) × (length (now u) ≤ largest) × (at + andDraws (length (now u)) ≤ length (now words)) ⌝ }
-    ensures { λ r. ⌜ carries 32 (now (a .entry)) (now (w .entry)) 1 (now (u .entry)) (now (words .entry)) at ≡ (now (u .exit), r) ⌝ }
+    ensures { λ r. ⌜ carries bits (now (a .entry)) (now (w .entry)) 1 (now (u .entry)) (now (words .entry)) at ≡ (now (u .exit), r) ⌝ }
 {
     let n = u.len();
-    let mut t0 = [0u32; LARGEST];
+    let mut t0: [Word; LARGEST] = [0; LARGEST];
     let t = &mut t0[0..n];
     let p = and_at(u, a, t, words, at);
     double_xor_each(t, w, u);
@@ -193,13 +200,13 @@ fn carry_round(a: &[u32], w: &[u32], u: &mut [u32], words: &[u32], at: usize) ->
 }
 
 // The carry loop, k − 1 rounds.
-fn carry_at(a: &[u32], w: &[u32], u: &mut [u32], words: &[u32], at: usize) -> usize
-    requires { ⌜ (length (now a) ≡ length (now u)) × (length (now w) ≡ length (now u)) × (length (now u) ≤ largest) × (at + 31 * andDraws (length (now u)) ≤ length (now words)) ⌝ }
-    ensures { λ r. ⌜ carries 32 (now (a .entry)) (now (w .entry)) 31 (now (u .entry)) (now (words .entry)) at ≡ (now (u .exit), r) ⌝ }
+fn carry_at(a: &[Word], w: &[Word], u: &mut [Word], words: &[Word], at: usize) -> usize
+    requires { ⌜ (length (now a) ≡ length (now u)) × (length (now w) ≡ length (now u)) × (length (now u) ≤ largest) × (at + (bits - 1) * andDraws (length (now u)) ≤ length (now words)) ⌝ }
+    ensures { λ r. ⌜ carries bits (now (a .entry)) (now (w .entry)) (bits - 1) (now (u .entry)) (now (words .entry)) at ≡ (now (u .exit), r) ⌝ }
 {
     let mut p = at;
     let mut i: usize = 0;
-    while i < 31 {
+    while i < TURNS {
         p = carry_round(a, w, u, words, p);
         i += 1;
     }
@@ -207,14 +214,15 @@ fn carry_at(a: &[u32], w: &[u32], u: &mut [u32], words: &[u32], at: usize) -> us
 }
 
 // Addition, from the word at `at` on; the place after. Every sum of shares in the library is this one.
-pub fn add_at(x: &[u32], y: &[u32], z: &mut [u32], words: &[u32], at: usize) -> usize
-    requires { ⌜ (length (now y) ≡ length (now x)) × (length (now z) ≡ length (now x)) × (length (now x) ≤ largest) × (at + addDraws 32 (length (now x)) ≤ length (now words)) ⌝ }
-    ensures { λ r. ⌜ add 32 (now (x .entry)) (now (y .entry)) (now (words .entry)) at ≡ (now (z .exit), r) ⌝ }
+pub fn add_at(x: &[Word], y: &[Word], z: &mut [Word], words: &[Word], at: usize) -> usize
+    requires { ⌜ (length (now y) ≡ length (now x)) × (length (now z) ≡ length (now x)) × (length (now x) ≤ largest)
+        × (at + addDraws bits (length (now x)) ≤ length (now words)) ⌝ }
+    ensures { λ r. ⌜ add bits (now (x .entry)) (now (y .entry)) (now (words .entry)) at ≡ (now (z .exit), r) ⌝ }
 {
     let n = x.len();
-    let mut w0 = [0u32; LARGEST];
-    let mut a0 = [0u32; LARGEST];
-    let mut u0 = [0u32; LARGEST];
+    let mut w0: [Word; LARGEST] = [0; LARGEST];
+    let mut a0: [Word; LARGEST] = [0; LARGEST];
+    let mut u0: [Word; LARGEST] = [0; LARGEST];
     let w = &mut w0[0..n];
     let a = &mut a0[0..n];
     let u = &mut u0[0..n];
@@ -225,21 +233,21 @@ pub fn add_at(x: &[u32], y: &[u32], z: &mut [u32], words: &[u32], at: usize) -> 
     q
 }
 
-// The sum of all shares modulo 2^32.
-pub fn open_sum(a: &[u32]) -> u32
-    ensures { λ r. ⌜ r ≡ openedSum 32 (now (a .entry)) ⌝ }
+// The sum of all shares modulo 2^bits.
+pub fn open_sum(a: &[Word]) -> Word
+    ensures { λ r. ⌜ r ≡ openedSum bits (now (a .entry)) ⌝ }
 {
-    let mut r: u32 = 0;
+    let mut r: Word = 0;
     let mut i = a.len();
     while 0 < i {
         i -= 1;
-        r = std::num::wrapping_add_u32(a[i], r);
+        r = plus(a[i], r);
     }
     r
 }
 
 // z becomes the next words, from the one at `at` on; the place after.
-pub fn draw_each(z: &mut [u32], words: &[u32], at: usize) -> usize
+pub fn draw_each(z: &mut [Word], words: &[Word], at: usize) -> usize
     requires { ⌜ at + length (now z) ≤ length (now words) ⌝ }
     ensures { λ r. ⌜ next (length (now (z .entry))) (now (words .entry)) at ≡ (now (z .exit), r) ⌝ }
 {
@@ -255,7 +263,7 @@ pub fn draw_each(z: &mut [u32], words: &[u32], at: usize) -> usize
 }
 
 // The shares of a value, from the word at `at` on; the place after.
-pub fn split_at(value: u32, shares: &mut [u32], words: &[u32], at: usize) -> usize
+pub fn split_at(value: Word, shares: &mut [Word], words: &[Word], at: usize) -> usize
     requires { ⌜ (0 < length (now shares)) × (at + (length (now shares) - 1) ≤ length (now words)) ⌝ }
     ensures { λ r. ⌜ split (length (now (shares .entry))) value (now (words .entry)) at ≡ (now (shares .exit), r) ⌝ }
 {
