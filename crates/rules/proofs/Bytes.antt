@@ -1,16 +1,17 @@
--- Bytes and words: how many, how large, and back. Bytes are words of 8 bits.
-use Prim.Native.Nat.{ℕ, zero, suc, _+_, _-_, _*_, _/_, _%_, _^_, _<_}
+-- Bytes and words: how many, how large, and back. Bytes are words of 8 bits, and a word of m bytes is one of 8m bits.
+use Prim.Native.Nat.{ℕ, zero, suc, _+_, _-_, _*_, _/_, _%_, _^_, _≤_, _<_}
 use mathlib.Core.Path.{_≡_, refl, sym, ap, ap₂, _∙_}
 use mathlib.Core.List.{List, [], _∷_, _++_, map}
-use native.Mathlib.Nat.{mod-lt, zero-lt-suc, zero-add, suc-add, div-div-eq-div-mul}
+use native.Mathlib.Nat.{mod-lt, mod-eq-of-lt, zero-lt-suc, zero-add, suc-add, zero-mul, suc-mul, pow-suc, div-div-eq-div-mul}
 use native.Mathlib.Omega.{arith}
+use lib.Arith.{mod-mul}
 use lib.Bits.{bitXor, xor-comm, xor-block}
 use lib.Dec.{lit<}
-use lib.ListN.{length, drop, replicate, length-append, length-replicate}
-use lib.Pow.{pow-pos}
+use lib.ListN.{length, getD, drop, replicate, length-append, length-drop, List·getD-append}
+use lib.Pow.{pow-pos, pow-add}
+use lib.Seq.{drop-append-le, drop-at}
 use Rattle.rules.specs.Supply.{Words}
-use Rattle.rules.specs.Standard.{bytesOf, wordsOf, allBytes, padding}
-use Rattle.rules.specs.Hmac.{padded}
+use Rattle.rules.specs.Hash.{Hash, zeros, bytesOf, numberOf, wordsOf, allBytes, padding}
 use Rattle.rules.proofs.Conversion.{words-drop}
 
 -- ---- every entry is a word
@@ -30,85 +31,148 @@ bytes-are-bytes zero v i = lit< tt
 bytes-are-bytes (suc m) v zero = mod-lt (v / 256 ^ m) (zero-lt-suc 255)
 bytes-are-bytes (suc m) v (suc i) = bytes-are-bytes m v i
 
-pub padding-is-bytes : (l : ℕ) → Words 8 (padding l)
+pub padding-is-bytes : (H : Hash) (l : ℕ) → Words 8 (padding H l)
 unfolding padding
-padding-is-bytes l zero = lit< tt
-padding-is-bytes l (suc i) = words-join 8 (replicate ((119 - l % 64) % 64) 0) (bytesOf 8 (l * 8)) (words-zeros 8 ((119 - l % 64) % 64)) (bytes-are-bytes 8 (l * 8)) i
+padding-is-bytes H l zero = lit< tt
+padding-is-bytes H l (suc i) =
+    let field = bytesOf (H .lengthBytes) (l * 8) in
+    words-join 8 (replicate (zeros H l) 0) field (words-zeros 8 (zeros H l)) (bytes-are-bytes (H .lengthBytes) (l * 8)) i
 
-pub four-are-words : (m : ℕ) (b : List ℕ) → Words 8 b → Words 32 (wordsOf m b)
+pow-bytes : (m : ℕ) → 256 ^ m ≡ 2 ^ (8 * m)
+pow-bytes zero = refl
+pow-bytes (suc m) =
+    let more : 8 * suc m ≡ 8 * m + 8 = omega arith in
+    pow-suc 256 m ∙ ap (λ t. t * 256) (pow-bytes m) ∙ rw more (sym (pow-add 2 (8 * m) 8))
+
+number-lt : (m : ℕ) (b : List ℕ) → Words 8 b → numberOf m b < 256 ^ m
+unfolding numberOf
+number-lt zero b h = lit< tt
+number-lt (suc m) b h = rw (pow-suc 256 m) (omega (arith, number-lt m b h, h m))
+
+pub bytes-are-words : (size m : ℕ) (b : List ℕ) → Words 8 b → Words (8 * size) (wordsOf size m b)
 unfolding wordsOf
-four-are-words zero b h i = lit< tt
-four-are-words (suc m) b h zero = omega (arith, h 0, h 1, h 2, h 3)
-four-are-words (suc m) b h (suc i) = four-are-words m (drop 4 b) (words-drop 8 4 b h) i
+bytes-are-words size zero b h i = pow-pos (8 * size)
+bytes-are-words size (suc m) b h zero = rw (← pow-bytes size) (number-lt size b h)
+bytes-are-words size (suc m) b h (suc i) = bytes-are-words size m (drop size b) (words-drop 8 size b h) i
 
 -- ---- how many
-length-bytes : (m v : ℕ) → length (bytesOf m v) ≡ m
+pub length-bytes : (m v : ℕ) → length (bytesOf m v) ≡ m
 unfolding bytesOf
 length-bytes zero v = refl
 length-bytes (suc m) v = ap suc (length-bytes m v)
 
-pub length-words : (m : ℕ) (b : List ℕ) → length (wordsOf m b) ≡ m
+pub length-words : (size m : ℕ) (b : List ℕ) → length (wordsOf size m b) ≡ m
 unfolding wordsOf
-length-words zero b = refl
-length-words (suc m) b = ap suc (length-words m (drop 4 b))
+length-words size zero b = refl
+length-words size (suc m) b = ap suc (length-words size m (drop size b))
 
-pub length-padding : (l : ℕ) → length (padding l) ≡ 9 + (119 - l % 64) % 64
-unfolding padding
-length-padding l =
-    ap suc (length-append (replicate ((119 - l % 64) % 64) 0) (bytesOf 8 (l * 8))) ∙ rw (length-replicate {A = ℕ} ((119 - l % 64) % 64) 0, length-bytes 8 (l * 8)) (omega arith)
+pub length-allBytes : (size : ℕ) (s : List ℕ) → length (allBytes size s) ≡ length s * size
+unfolding allBytes
+length-allBytes size [] = sym (zero-mul size)
+length-allBytes size (w ∷ s) =
+    length-append (bytesOf size w) (allBytes size s) ∙ omega (arith, length-bytes size w, length-allBytes size s, suc-mul (length s) size)
 
--- a message with its padding is whole blocks
-pub length-padded : (text : List ℕ) → length (padded text) ≡ 64 * ((length text + 8) / 64 + 1)
-unfolding padded
-length-padded text = length-append text (padding (64 + length text)) ∙ omega (arith, length-padding (64 + length text))
+-- ---- numbers and words of joined bytes
+number-append : (m : ℕ) (x y : List ℕ) → m ≤ length x → numberOf m (x ++ y) ≡ numberOf m x
+unfolding numberOf
+number-append zero x y h = refl
+number-append (suc m) x y h =
+    ap₂ (λ a b. a * 256 + b) (number-append m x y (omega arith)) (List·getD-append x y 0 m (omega arith))
 
-pub length-allBytes : (s : List ℕ) → length (allBytes s) ≡ length s * 4
-unfolding allBytes bytesOf
-length-allBytes [] = refl
-length-allBytes (w ∷ s) = omega (arith, length-allBytes s)
-
--- ---- words of joined bytes, of words as bytes, of bytes with a constant XORed into each
-pub wordsOf-append : (m p : ℕ) (x y : List ℕ) → length x ≡ m * 4 → wordsOf (m + p) (x ++ y) ≡ wordsOf m x ++ wordsOf p y
+pub words-append : (size m p : ℕ) (x y : List ℕ) → length x ≡ m * size
+    → wordsOf size (m + p) (x ++ y) ≡ wordsOf size m x ++ wordsOf size p y
 unfolding wordsOf
-wordsOf-append zero p [] y l = rw zero-add
-wordsOf-append zero p (a ∷ x) y l = absurd (omega arith)
-wordsOf-append (suc m) p [] y l = absurd (omega arith)
-wordsOf-append (suc m) p (a ∷ []) y l = absurd (omega arith)
-wordsOf-append (suc m) p (a ∷ b ∷ []) y l = absurd (omega arith)
-wordsOf-append (suc m) p (a ∷ b ∷ c ∷ []) y l = absurd (omega arith)
-wordsOf-append (suc m) p (a ∷ b ∷ c ∷ d ∷ x) y l = rw (suc-add m p) (ap (λ (t : List ℕ). (((a * 256 + b) * 256 + c) * 256 + d) ∷ t) (wordsOf-append m p x y (omega arith)))
+words-append size zero p [] y l = rw zero-add
+words-append size zero p (a ∷ x) y l = absurd (omega (arith, zero-mul size))
+words-append size (suc m) p x y l =
+    let room : size ≤ length x = omega (arith, suc-mul m size) in
+    let left : length (drop size x) ≡ m * size = length-drop size x ∙ omega (arith, suc-mul m size) in
+    rw (suc-add m p, number-append size x y room, drop-append-le size x y room)
+    (ap (λ (t : List ℕ). numberOf size x ∷ t) (words-append size m p (drop size x) y left))
 
-digits : (w p q r : ℕ) → p ≡ w / 256 → q ≡ p / 256 → r ≡ q / 256 → w < 2 ^ 32 → ((r % 256 * 256 + q % 256) * 256 + p % 256) * 256 + w / 1 % 256 ≡ w
-digits w p q r hp hq hr h =
-    let one : w / 1 ≡ w = omega arith in
-    let top : r % 256 ≡ r = omega arith in
-    rw (one, top) (omega arith)
+-- ---- bytes and back: byte i of m, from the front
+pub byte-of : (m v i j : ℕ) → i + suc j ≡ m → getD (bytesOf m v) i 0 ≡ v / 256 ^ j % 256
+unfolding bytesOf
+byte-of zero v i j e = absurd (omega arith)
+byte-of (suc m) v zero j e = let q : m ≡ j = omega arith in rw q
+byte-of (suc m) v (suc i) j e = byte-of m v i j (omega arith)
 
-one-word : (w : ℕ) → w < 2 ^ 32 → (((w / 256 ^ 3 % 256 * 256 + w / 256 ^ 2 % 256) * 256 + w / 256 ^ 1 % 256) * 256 + w / 256 ^ 0 % 256) ≡ w
-one-word w h = digits w (w / 256) (w / 65536) (w / 16777216) refl (sym (div-div-eq-div-mul w 256 256)) (sym (div-div-eq-div-mul w 65536 256)) h
+-- the first i of m bytes, with j after them
+number-front : (m v : ℕ) (rest : List ℕ) (i j : ℕ) → i + j ≡ m → numberOf i (bytesOf m v ++ rest) ≡ v / 256 ^ j % 256 ^ i
+unfolding numberOf
+number-front m v rest zero j e = sym (lit-one (v / 256 ^ j))
+  where
+    lit-one : (a : ℕ) → a % 1 ≡ 0
+    lit-one a = omega arith
+number-front m v rest (suc i) j e =
+    let last : getD (bytesOf m v ++ rest) i 0 ≡ v / 256 ^ j % 256 =
+    List·getD-append (bytesOf m v) rest 0 i (omega (arith, length-bytes m v)) ∙ byte-of m v i j (omega arith) in
+    let high : v / 256 ^ suc j ≡ v / 256 ^ j / 256 =
+    ap (λ t. v / t) (pow-suc 256 j) ∙ sym (div-div-eq-div-mul v (256 ^ j) 256) in
+    let front = number-front m v rest i (suc j) (omega arith) ∙ ap (λ t. t % 256 ^ i) high in
+    let some : 0 < 256 ^ i = rw (pow-bytes i) (pow-pos (8 * i)) in
+    ap₂ (λ a b. a * 256 + b) front last
+    ∙ sym (ap (λ t. v / 256 ^ j % t) (pow-suc 256 i) ∙ mod-mul (v / 256 ^ j) some (zero-lt-suc 255))
 
-pub words-back : (s : List ℕ) → Words 32 s → wordsOf (length s) (allBytes s) ≡ s
-unfolding wordsOf allBytes bytesOf
-words-back [] h = refl
-words-back (w ∷ s) h = ap₂ (λ a (l : List ℕ). a ∷ l) (one-word w (h 0)) (words-back s (λ i. h (suc i)))
+number-back : (size w : ℕ) (rest : List ℕ) → w < 2 ^ (8 * size) → numberOf size (bytesOf size w ++ rest) ≡ w
+number-back size w rest h =
+    number-front size w rest size 0 (omega arith)
+    ∙ ap (λ t. t % 256 ^ size) (one w)
+    ∙ mod-eq-of-lt (rw (pow-bytes size) h)
+  where
+    one : (w : ℕ) → w / 256 ^ 0 ≡ w
+    one w = omega arith
 
--- a byte, four times
-abbrev pub fourfold : ℕ → ℕ
-fourfold c = ((c * 256 + c) * 256 + c) * 256 + c
+pub words-back : (size : ℕ) (s : List ℕ) → Words (8 * size) s → wordsOf size (length s) (allBytes size s) ≡ s
+unfolding wordsOf allBytes
+words-back size [] h = refl
+words-back size (w ∷ s) h =
+    rw (drop-at (bytesOf size w) (allBytes size s) size (length-bytes size w))
+    (ap₂ (λ a (l : List ℕ). a ∷ l) (number-back size w (allBytes size s) (h 0)) (words-back size s (λ i. h (suc i))))
 
-xor-four : (c x y z u : ℕ) → c < 256 → y < 256 → z < 256 → u < 256
-    → ((bitXor c x * 256 + bitXor c y) * 256 + bitXor c z) * 256 + bitXor c u ≡ bitXor (((x * 256 + y) * 256 + z) * 256 + u) (fourfold c)
-xor-four c x y z u hc hy hz hu =
-    sym (xor-comm (((x * 256 + y) * 256 + z) * 256 + u) (fourfold c)
-    ∙ xor-block 8 ((c * 256 + c) * 256 + c) ((x * 256 + y) * 256 + z) c u hc hu
-    ∙ ap (λ t. t * 256 + bitXor c u) (xor-block 8 (c * 256 + c) (x * 256 + y) c z hc hz ∙ ap (λ t. t * 256 + bitXor c z) (xor-block 8 c x c y hc hy)))
+-- ---- a constant XORed into every byte
+every-at : (c size m : ℕ) → m < size → getD (replicate size c) m 0 ≡ c
+every-at c zero m h = absurd (omega arith)
+every-at c (suc size) zero h = refl
+every-at c (suc size) (suc m) h = every-at c size m (omega arith)
 
-pub wordsOf-xor : (c m : ℕ) (b : List ℕ) → c < 256 → Words 8 b → length b ≡ m * 4 → wordsOf m (map (bitXor c) b) ≡ map (λ w. bitXor w (fourfold c)) (wordsOf m b)
+pub every-lt : (c size : ℕ) → c < 256 → numberOf size (replicate size c) < 2 ^ (8 * size)
+every-lt c size h = rw (← pow-bytes size) (number-lt size (replicate size c) (bytes size))
+  where
+    bytes : (m : ℕ) → Words 8 (replicate m c)
+    bytes zero i = lit< tt
+    bytes (suc m) zero = h
+    bytes (suc m) (suc i) = bytes m i
+
+map-at : (f : ℕ → ℕ) (b : List ℕ) (m : ℕ) → m < length b → getD (map f b) m 0 ≡ f (getD b m 0)
+map-at f [] m h = absurd (omega arith)
+map-at f (a ∷ b) zero h = refl
+map-at f (a ∷ b) (suc m) h = map-at f b m (omega arith)
+
+number-xor : (c size m : ℕ) (b : List ℕ) → c < 256 → Words 8 b → m ≤ length b → m ≤ size
+    → numberOf m (map (bitXor c) b) ≡ bitXor (numberOf m b) (numberOf m (replicate size c))
+unfolding numberOf
+number-xor c size zero b hc h l s = refl
+number-xor c size (suc m) b hc h l s =
+    let C = numberOf m (replicate size c) in
+    let last = map-at (bitXor c) b m (omega arith) ∙ xor-comm c (getD b m 0) in
+    ap₂ (λ x y. x * 256 + y) (number-xor c size m b hc h (omega arith) (omega arith)) last
+    ∙ sym (ap (λ t. bitXor (numberOf m b * 256 + getD b m 0) (C * 256 + t)) (every-at c size m (omega arith))
+    ∙ xor-block 8 (numberOf m b) C (getD b m 0) c (h m) hc)
+
+pub words-xor : (c size m : ℕ) (b : List ℕ) → c < 256 → Words 8 b → length b ≡ m * size
+    → wordsOf size m (map (bitXor c) b) ≡ map (λ w. bitXor w (numberOf size (replicate size c))) (wordsOf size m b)
 unfolding wordsOf
-wordsOf-xor c zero b hc h l = refl
-wordsOf-xor c (suc m) [] hc h l = absurd (omega arith)
-wordsOf-xor c (suc m) (x ∷ []) hc h l = absurd (omega arith)
-wordsOf-xor c (suc m) (x ∷ y ∷ []) hc h l = absurd (omega arith)
-wordsOf-xor c (suc m) (x ∷ y ∷ z ∷ []) hc h l = absurd (omega arith)
-wordsOf-xor c (suc m) (x ∷ y ∷ z ∷ u ∷ b) hc h l =
-    ap₂ (λ a (t : List ℕ). a ∷ t) (xor-four c x y z u hc (h 1) (h 2) (h 3)) (wordsOf-xor c m b hc (λ i. h (suc (suc (suc (suc i))))) (omega arith))
+words-xor c size zero b hc h l = refl
+words-xor c size (suc m) b hc h l =
+    let room : size ≤ length b = omega (arith, suc-mul m size) in
+    let left : length (drop size b) ≡ m * size = length-drop size b ∙ omega (arith, suc-mul m size) in
+    rw (map-drop size b)
+    (ap₂ (λ a (t : List ℕ). a ∷ t)
+    (number-xor c size size b hc h room (omega arith))
+    (words-xor c size m (drop size b) hc (words-drop 8 size b h) left))
+  where
+    map-drop : (i : ℕ) (b : List ℕ) → drop i (map (bitXor c) b) ≡ map (bitXor c) (drop i b)
+    map-drop zero b = refl
+    map-drop (suc i) [] = refl
+    map-drop (suc i) (a ∷ b) = map-drop i b

@@ -15,15 +15,18 @@ use Rattle.rules.specs.Supply.{Draw, Words, split}
 use Rattle.rules.specs.Numbers.{both, allowed, Test, test, orElse, first, settled}
 use Rattle.rules.specs.Shares.{refresh, expand, and, add}
 use Rattle.rules.specs.Convert.{toBool, toArith}
-use Rattle.rules.specs.Counts.{refreshDraws, andDraws, addDraws, toBoolDraws, toArithDraws, compressDraws, hmacDraws}
+use Rattle.rules.specs.Counts.{refreshDraws, andDraws, addDraws, toBoolDraws, toArithDraws, compressDraws, hmacDraws, sha1}
 use Rattle.rules.specs.Sha1.{compress, used, chainOf}
+use Rattle.rules.specs.Standard.{SHA1}
 use Rattle.rules.specs.Hmac.{splitKey, hmacTag}
 use Rattle.rules.specs.Calls.{recordCall, call, openCall, query, compressCall}
 use Rattle.rules.proofs.Openings.{opened-lt}
 use Rattle.rules.proofs.Pairs.{refresh-rule, and-rule}
 use Rattle.rules.proofs.Addition.{add-loop-rule, expand-rule, split-rule}
 use Rattle.rules.proofs.Conversion.{add-adds, refresh-refreshes, toBool-rule, toArith-rule}
-use Rattle.rules.proofs.Sizes.{compress-sized, hmacTag-sized, splitKey-sized}
+use Rattle.rules.proofs.MaskedHmac.{Keeps}
+use Rattle.rules.proofs.Sizes.{Sized, add-sizes, sha1-sizes, compress-sized, hmacTag-sized, splitKey-sized}
+use Rattle.rules.proofs.Tags.{sha1-proper}
 use Rattle.rules.proofs.Allowed.{within, power-of}
 
 -- No two differing outcomes satisfy one promise: each promise is an equation to a definition.
@@ -158,16 +161,26 @@ both-true false b h = let z : _≡_ {A = ℕ} 0 1 = cc in absurd (omega arith)
 
 -- ---- SHA-1 and HMAC: what the rules draw, at what was tested
 module _ (n : ℕ) (ok : allowed n ≡ true) (ws : List ℕ) where
-  pub splitKey-draws : (key : List ℕ) → splitKey n key ws 0 .1 ≡ 16 * (n - 1)
-  splitKey-draws key = splitKey-sized n key (within n ok .0) .place ws 0 ∙ zero-add (16 * (n - 1))
+  some : 0 < n
+  some = within n ok .0
 
-  pub hmacTag-draws : (key text : List ℕ) → eqb (length key) (16 * n) ≡ true → hmacTag 32 (add 32) n key text ws 0 .1 ≡ hmacDraws 32 n (length text)
+  pub splitKey-draws : (key : List ℕ) → splitKey (SHA1 32) n key ws 0 .1 ≡ 16 * (n - 1)
+  splitKey-draws key = splitKey-sized (SHA1 32) n key some .place ws 0 ∙ zero-add (16 * (n - 1))
+
+  keeps : Keeps (sha1 32) n (λ v. Unit {0}) (Sized n)
+  keeps = sha1-sizes 32 n some 32 (add 32) (add-sizes 32 (omega arith))
+
+  pub hmacTag-draws : (key text : List ℕ) → eqb (length key) (16 * n) ≡ true
+      → hmacTag (sha1 32) n key text ws 0 .1 ≡ hmacDraws (sha1 32) n (length text)
   hmacTag-draws key text h =
-      hmacTag-sized 32 n (omega arith) (within n ok .0) key text (eqb-true (length key) (16 * n) h) .place ws 0 ∙ zero-add (hmacDraws 32 n (length text))
+      hmacTag-sized (sha1 32) n some keeps sha1-proper key text (eqb-true (length key) (16 * n) h) .place ws 0
+      ∙ zero-add (hmacDraws (sha1 32) n (length text))
 
-  pub compress-draws : (h block : List ℕ) → length h ≡ 5 * n → eqb (length block) (16 * n) ≡ true → compress 32 (add 32) n h block ws 0 .1 ≡ compressDraws 32 n
+  pub compress-draws : (h block : List ℕ) → length h ≡ 5 * n → eqb (length block) (16 * n) ≡ true
+      → compress 32 (add 32) n h block ws 0 .1 ≡ compressDraws 32 n
   compress-draws h block l e =
-      compress-sized 32 n (omega arith) (within n ok .0) h block l (eqb-true (length block) (16 * n) e) .place ws 0 ∙ zero-add (compressDraws 32 n)
+      compress-sized (sha1 32) n some keeps h block l (eqb-true (length block) (16 * n) e) .place ws 0
+      ∙ zero-add (compressDraws 32 n)
 
 -- a compression, refused and done
 module _ (n : ℕ) (chain : Chain) (block ws : List ℕ) (need number : ℕ) (answer : Compressed)

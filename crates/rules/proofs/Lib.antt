@@ -11,7 +11,10 @@ pub mod Loops
 pub mod Calls
 pub mod Functions
 pub mod Bytes
-pub mod Masked
+pub mod Goods
+pub mod MaskedSha1
+pub mod Hashes
+pub mod MaskedHmac
 pub mod Sizes
 pub mod Opens
 pub mod Tags

@@ -9,15 +9,18 @@ use lib.ListN.{length, getD, length-map, length-set, length-replicate}
 use Rattle.rules.specs.Supply.{Rule}
 use Rattle.rules.specs.Shares.{add}
 use Rattle.rules.specs.Convert.{Adder}
-use Rattle.rules.specs.Counts.{andDraws, addDraws, quarterAnds, roundsAnds, compressAnds, compressDraws, compressions, hmacDraws}
-use Rattle.rules.specs.Standard.{allBytes, bytesOf, wordsOf, keyBlock}
+use Rattle.rules.specs.Counts.{andDraws, addDraws, quarterAnds, roundsAnds, compressAnds, compressDraws, hmacDraws, sha1By}
+use Rattle.rules.specs.Hash.{Hash, chainWords, digestBytes, allBytes, wordsOf, keyBlock}
 use Rattle.rules.specs.Sha1.{openWords, public, rotl, compress}
-use Rattle.rules.specs.Hmac.{splitKey, hmacShares, hmacTag}
+use Rattle.rules.specs.Hmac.{Masked, splitKey, hmacShares, hmacTag}
 use Rattle.rules.proofs.Rule.{give, bind, said, counted}
 use Rattle.rules.proofs.Addition.{add-loop-rule}
 use Rattle.rules.proofs.Functions.{xors, chosen-rule}
-use Rattle.rules.proofs.Bytes.{length-words}
-use Rattle.rules.proofs.Masked.{Keeps, Goods, goods-size, goods-of, compressionOf, compress-rule, hmac-rule, splits-rule}
+use Rattle.rules.proofs.Bytes.{length-words, length-allBytes}
+use Rattle.rules.proofs.Goods.{Goods, length-open, goods-size, goods-of}
+use Rattle.rules.proofs.Hashes.{Proper}
+use Rattle.rules.proofs.MaskedSha1.{Keeps, compressionOf, compress-rule}
+use Rattle.rules.proofs.MaskedHmac.{Keeps as KeepsHash, hmac-rule, splits-rule}
 
 -- what is asked of an addition that draws d n words
 abbrev pub Sizes : (ℕ → ℕ) → Adder → Type 0
@@ -26,13 +29,26 @@ Sizes d adder = (n : ℕ) (x y : List ℕ) → length x ≡ n → length y ≡ n
 pub add-sizes : (k : ℕ) → 0 < k → Sizes (addDraws k) (add k)
 add-sizes k h n x y lx ly = said (add-loop-rule k n x y h lx ly) refl (λ z g. g .0)
 
-abbrev Sized : ℕ → List ℕ → ℕ → Type 0
+abbrev pub Sized : ℕ → List ℕ → ℕ → Type 0
 Sized n x X = length x ≡ n
 
-module _ (k n : ℕ) (some : 0 < n) where
-  keeps-size : (d : ℕ → ℕ) (adder : Adder) → Sizes d adder → Keeps k n (d n) adder (λ v. Unit {0}) (Sized n)
+-- ---- in ANDs
+roundsAnds-is : (a m t : ℕ) → roundsAnds a m t ≡ roundsAnds 0 m t + m * (4 * a)
+unfolding roundsAnds
+roundsAnds-is a zero t = omega (arith, zero-mul (4 * a))
+roundsAnds-is a (suc m) t = omega (arith, roundsAnds-is a m (t + 1), suc-mul m (4 * a))
+
+pub compression-is : (ands n : ℕ) → compressionOf (ands * andDraws n) n ≡ compressAnds ands * andDraws n
+unfolding compressAnds
+compression-is ands n =
+    let e : roundsAnds ands 80 0 + 5 * ands ≡ roundsAnds 0 80 0 + 325 * ands = omega (arith, roundsAnds-is ands 80 0) in
+    rw (e, add-zero (roundsAnds 0 80 0))
+    (omega (arith, add-mul (roundsAnds 0 80 0) (325 * ands) (andDraws n), mul-assoc 325 ands (andDraws n)))
+
+module _ (k n : ℕ) (some : 0 < n) (ands : ℕ) (adder : Adder) (sizes : Sizes (λ m. ands * andDraws m) adder) where
+  keeps-size : Keeps k n (ands * andDraws n) adder (λ v. Unit {0}) (Sized n)
   unfolding public
-  keeps-size d adder sizes =
+  keeps-size =
       record {
         size = λ g. g;
         adds = λ {x} {y} g h. sizes n x y g h;
@@ -40,30 +56,55 @@ module _ (k n : ℕ) (some : 0 < n) where
         xors = λ {x} {y} g h. xors n x y g h .0;
         turns = λ {x} r b g. length-map x (rotl k r) ∙ g;
         shows = λ v u. omega (arith, length-replicate {A = ℕ} (n - 1) 0);
-        marks = λ {x} c u g. length-set x 0 (bitXor (getD x 0 0) c) ∙ g;
         fits = λ v b. tt;
       }
+
+  pub sha1-sizes : KeepsHash (sha1By k adder ands) n (λ v. Unit {0}) (Sized n)
+  sha1-sizes =
+      record {
+        size = λ x X g. g;
+        compresses = λ gh gb. said (compress-rule keeps-size gh gb) (compression-is ands n) (λ z g. g);
+        shows = keeps-size .shows;
+        marks = λ {x} c u g. length-set x 0 (bitXor (getD x 0 0) c) ∙ g;
+        starts = λ i b. tt;
+        fits = λ v b. tt;
+      }
+
+-- ---- any hash in shares
+module _ (M : Masked) (n : ℕ) (some : 0 < n) (keeps : KeepsHash M n (λ v. Unit {0}) (Sized n)) where
+  abbrev H : Hash
+  H = M .standard
 
   words-size : (m : ℕ) (s : List ℕ) → length s ≡ m * n → Goods (Sized n) m s (openWords n m s)
   words-size m s l = goods-of n m s l (λ i x h e. h)
 
-  -- with any addition
-  module _ (d : ℕ → ℕ) (adder : Adder) (sizes : Sizes d adder) where
-    pub compress-sizes : (h block : List ℕ) → length h ≡ 5 * n → length block ≡ 16 * n → Rule (compressionOf (d n) n) (λ z. length z ≡ 5 * n) (compress k adder n h block)
-    compress-sizes h block lh lb = said (compress-rule (keeps-size d adder sizes) (words-size 5 h lh) (words-size 16 block lb)) refl (λ z g. goods-size (λ x X e. e) g)
+  pub compress-sized : (h block : List ℕ) → length h ≡ chainWords H * n → length block ≡ 16 * n
+      → Rule (M .draws n) (λ z. length z ≡ chainWords H * n) (M .compress n h block)
+  compress-sized h block lh lb =
+      said (keeps .compresses (words-size (chainWords H) h lh) (words-size 16 block lb)) refl (λ z g. goods-size (keeps .size) g)
 
--- ---- with the addition of section 5, in ANDs
-roundsAnds-is : (a m t : ℕ) → roundsAnds a m t ≡ roundsAnds 0 m t + m * (4 * a)
-unfolding roundsAnds
-roundsAnds-is a zero t = omega (arith, zero-mul (4 * a))
-roundsAnds-is a (suc m) t = omega (arith, roundsAnds-is a m (t + 1), suc-mul m (4 * a))
+  module _ (proper : Proper H) (key text : List ℕ) (size : length key ≡ 16 * n) where
+    pub hmacShares-sized : Rule (hmacDraws M n (length text)) (λ z. length z ≡ chainWords H * n) (hmacShares M n key text)
+    hmacShares-sized =
+        said (hmac-rule keeps proper some text (λ i. tt) (words-size 16 key size)) refl (λ z g. goods-size (keeps .size) g)
 
-compression-is : (k n : ℕ) → compressionOf (addDraws k n) n ≡ compressDraws k n
-unfolding compressAnds
-compression-is k n =
-    let e : roundsAnds k 80 0 + 5 * k ≡ roundsAnds 0 80 0 + 325 * k = omega (arith, roundsAnds-is k 80 0) in
-    rw (e, add-zero (roundsAnds 0 80 0)) (omega (arith, add-mul (roundsAnds 0 80 0) (325 * k) (andDraws n), mul-assoc 325 k (andDraws n)))
+    pub hmacTag-sized : Rule (hmacDraws M n (length text)) (λ t. length t ≡ digestBytes H) (hmacTag M n key text)
+    unfolding hmacTag
+    hmacTag-sized =
+        counted
+        (bind hmacShares-sized (λ z g.
+        give (λ t. length t ≡ digestBytes H) (allBytes (H .wordBytes) (openWords n (chainWords H) z))
+        (length-allBytes (H .wordBytes) (openWords n (chainWords H) z) ∙ ap (λ t. t * H .wordBytes) (length-open n (chainWords H) z))))
+        (omega arith)
 
+pub splitKey-sized : (H : Hash) (n : ℕ) (key : List ℕ) → 0 < n → Rule (16 * (n - 1)) (λ z. length z ≡ 16 * n) (splitKey H n key)
+unfolding splitKey
+splitKey-sized H n key h =
+    let e = length-words (H .wordBytes) 16 (keyBlock H key) in
+    said (splits-rule n (wordsOf (H .wordBytes) 16 (keyBlock H key)) h) (ap (λ t. t * (n - 1)) e)
+    (λ z g. goods-size (λ x X p. p .0) g ∙ ap (λ t. t * n) e)
+
+-- ---- in closed form
 andDraws-twice : (m : ℕ) → andDraws (suc m) * 2 ≡ suc m * m
 unfolding andDraws
 andDraws-twice zero = refl
@@ -74,22 +115,3 @@ pub compress-count : (n : ℕ) → compressDraws 32 n ≡ 5220 * (n * (n - 1))
 unfolding compressAnds roundsAnds quarterAnds andDraws
 compress-count zero = refl
 compress-count (suc m) = let e : suc m - 1 ≡ m = omega arith in rw e (omega (arith, andDraws-twice m))
-
-module _ (k n : ℕ) (wide : 0 < k) (some : 0 < n) where
-  pub compress-sized : (h block : List ℕ) → length h ≡ 5 * n → length block ≡ 16 * n → Rule (compressDraws k n) (λ z. length z ≡ 5 * n) (compress k (add k) n h block)
-  compress-sized h block lh lb = counted (compress-sizes k n some (addDraws k) (add k) (add-sizes k wide) h block lh lb) (compression-is k n)
-
-  pub hmacShares-sized : (key text : List ℕ) → length key ≡ 16 * n → Rule (hmacDraws k n (length text)) (λ z. length z ≡ 5 * n) (hmacShares k (add k) n key text)
-  hmacShares-sized key text l =
-      said (hmac-rule (keeps-size k n some (addDraws k) (add k) (add-sizes k wide)) text some (λ i. tt) (words-size k n some 16 key l))
-      (ap (λ t. compressions (length text) * t) (compression-is k n)) (λ z g. goods-size (λ x X e. e) g)
-
-  pub hmacTag-sized : (key text : List ℕ) → length key ≡ 16 * n → Rule (hmacDraws k n (length text)) (λ z. length z ≡ 20) (hmacTag k (add k) n key text)
-  unfolding hmacTag openWords allBytes bytesOf
-  hmacTag-sized key text l = counted (bind (hmacShares-sized key text l) (λ z g. give (λ t. length t ≡ 20) (allBytes (openWords n 5 z)) refl)) (omega arith)
-
-pub splitKey-sized : (n : ℕ) (key : List ℕ) → 0 < n → Rule (16 * (n - 1)) (λ z. length z ≡ 16 * n) (splitKey n key)
-unfolding splitKey
-splitKey-sized n key h =
-    let e = length-words 16 (keyBlock key) in
-    said (splits-rule n (wordsOf 16 (keyBlock key)) h) (ap (λ t. t * (n - 1)) e) (λ z g. goods-size (λ x X p. p .0) g ∙ ap (λ t. t * n) e)

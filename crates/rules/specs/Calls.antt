@@ -15,8 +15,10 @@ use Rattle.rules.specs.Goubin.{b2aRecord, a2bRecord}
 use Rattle.rules.specs.Shares.{refresh, expand, and, add}
 use Rattle.rules.specs.Convert.{toBool, toArith}
 use Rattle.rules.specs.Sha1.{compress, used, chainOf}
+use Rattle.rules.specs.Hash.{digestBytes}
+use Rattle.rules.specs.Standard.{SHA1}
 use Rattle.rules.specs.Hmac.{splitKey, hmacTag}
-use Rattle.rules.specs.Counts.{refreshDraws, andDraws, addDraws, toBoolDraws, toArithDraws, compressDraws, hmacDraws}
+use Rattle.rules.specs.Counts.{refreshDraws, andDraws, addDraws, toBoolDraws, toArithDraws, compressDraws, hmacDraws, sha1}
 
 -- ---- two shares: working forms take plain numbers and refuse nothing
 -- x − r, from x′ and r with x = x′ ⊕ r
@@ -77,11 +79,19 @@ b2aCall k n x = oneCall n n x (toArith k (add k) refresh x)
 
 -- ---- SHA-1 and HMAC
 abbrev pub splitKeyCall : ℕ → List ℕ → List ℕ → List ℕ → Answer × List ℕ
-splitKeyCall n key came = call (test 1 (allowed n) ∷ test 3 (eqb (length came) (16 * n)) ∷ test 4 (leb (length key) longestKey) ∷ []) (splitKey n key) came
+splitKeyCall n key came =
+    call
+    (test 1 (allowed n) ∷ test 3 (eqb (length came) (16 * n)) ∷ test 4 (leb (length key) longestKey) ∷ [])
+    (splitKey (SHA1 32) n key)
+    came
 
 abbrev pub hmacCall : ℕ → ℕ → List ℕ → List ℕ → List ℕ → List ℕ → Answer × List ℕ
 hmacCall k n key text came =
-    call (test 1 (allowed n) ∷ test 2 (eqb (length key) (16 * n)) ∷ test 3 (eqb (length came) 20) ∷ test 4 (leb (length text) longestMessage) ∷ []) (hmacTag k (add k) n key text) came
+    call
+    (test 1 (allowed n) ∷ test 2 (eqb (length key) (16 * n)) ∷ test 3 (eqb (length came) (digestBytes (SHA1 k)))
+    ∷ test 4 (leb (length text) longestMessage) ∷ [])
+    (hmacTag (sha1 k) n key text)
+    came
 
 -- a refused compression returns the chain record exactly as given
 abbrev pub compressCall : ℕ → ℕ → Chain → List ℕ → List ℕ → Compressed
@@ -136,4 +146,4 @@ abbrev pub compressWords : ℕ → ℕ → Answer
 compressWords k n = query (test 1 (allowed n) ∷ []) (compressDraws k n)
 
 abbrev pub hmacWords : ℕ → ℕ → ℕ → Answer
-hmacWords k n length = query (test 1 (allowed n) ∷ test 4 (leb length longestMessage) ∷ []) (hmacDraws k n length)
+hmacWords k n length = query (test 1 (allowed n) ∷ test 4 (leb length longestMessage) ∷ []) (hmacDraws (sha1 k) n length)

@@ -1,30 +1,37 @@
 -- Section 5: how many words each rule draws, in closed form, for n shares of k bits. That the rules draw so many is proved.
 use Prim.Native.Nat.{ℕ, zero, suc, _+_, _-_, _*_, _/_}
 use lib.Dec.{leb}
-use Rattle.rules.specs.Convert.{choose}
+use Rattle.words.specs.Word.{Width}
+use Rattle.rules.specs.Supply.{Count}
+use Rattle.rules.specs.Shares.{add}
+use Rattle.rules.specs.Convert.{Adder, choose}
+use Rattle.rules.specs.Hash.{Hash, blockBytes}
+use Rattle.rules.specs.Standard.{SHA1}
+use Rattle.rules.specs.Sha1.{compress}
+use Rattle.rules.specs.Hmac.{Masked}
 
 -- how many pairs n shares have: n(n−1)/2
-unfoldable pub andDraws : ℕ → ℕ
+unfoldable pub andDraws : Count → ℕ
 andDraws zero = 0
 andDraws (suc m) = m + andDraws m
 
 -- k ANDs
-abbrev pub addDraws : ℕ → ℕ → ℕ
+abbrev pub addDraws : Width → Count → ℕ
 addDraws k n = k * andDraws n
 
-abbrev pub refreshDraws : ℕ → ℕ
+abbrev pub refreshDraws : Count → ℕ
 refreshDraws n = n - 1
 
 -- W(1) = 0 and W(n) = 2W(n/2) + n + the words of one addition of n shares; d n is what an addition draws
-unfoldable pub toBoolDrawsIn : (ℕ → ℕ) → ℕ → ℕ → ℕ
+unfoldable pub toBoolDrawsIn : (Count → ℕ) → ℕ → Count → ℕ
 toBoolDrawsIn d zero n = 0
 toBoolDrawsIn d (suc deep) n = choose (leb n 1) 0 (2 * toBoolDrawsIn d deep (n / 2) + n + d n)
 
-unfoldable pub toBoolDraws : (ℕ → ℕ) → ℕ → ℕ
+unfoldable pub toBoolDraws : (Count → ℕ) → Count → ℕ
 toBoolDraws d n = toBoolDrawsIn d n n
 
 -- n−1 words, W(n), one addition and one refresh
-abbrev pub toArithDraws : (ℕ → ℕ) → (ℕ → ℕ) → ℕ → ℕ
+abbrev pub toArithDraws : (Count → ℕ) → (Count → ℕ) → Count → ℕ
 toArithDraws d e n = n - 1 + toBoolDraws d n + d n + e n
 
 -- ---- section 6: in ANDs, of the function of a quarter, of m rounds from round t on, of a compression
@@ -42,12 +49,20 @@ roundsAnds a (suc m) t = quarterAnds (t / 20) + 4 * a + roundsAnds a m (t + 1)
 unfoldable pub compressAnds : ℕ → ℕ
 compressAnds a = roundsAnds a 80 0 + 5 * a
 
-abbrev pub compressDraws : ℕ → ℕ → ℕ
+abbrev pub compressDraws : Width → Count → ℕ
 compressDraws k n = compressAnds k * andDraws n
 
 -- how many compressions HMAC makes of a message of l bytes
-abbrev pub compressions : ℕ → ℕ
-compressions l = (l + 8) / 64 + 4
+abbrev pub compressions : Hash → ℕ → ℕ
+compressions H l = (l + H .lengthBytes) / blockBytes H + 4
 
-abbrev pub hmacDraws : ℕ → ℕ → ℕ → ℕ
-hmacDraws k n l = compressions l * compressDraws k n
+abbrev pub hmacDraws : Masked → Count → ℕ → ℕ
+hmacDraws M n l = compressions (M .standard) l * M .draws n
+
+-- ---- SHA-1 in shares is a hash in shares, with any addition, of so many ANDs; the calls take that of section 5
+abbrev pub sha1By : Width → Adder → ℕ → Masked
+sha1By k adder ands =
+    record { standard = SHA1 k; compress = compress k adder; draws = λ n. compressAnds ands * andDraws n }
+
+abbrev pub sha1 : Width → Masked
+sha1 k = sha1By k (add k) k

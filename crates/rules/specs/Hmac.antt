@@ -1,52 +1,67 @@
--- Sections 2 and 6: a key in shares, and masked HMAC-SHA-1 of a message.
-use Prim.Native.Nat.{ℕ, zero, suc, _+_, _*_, _/_}
+-- Sections 2 and 6: a key in shares, and masked HMAC of a message, over any hash in shares.
+use Prim.Native.Nat.{ℕ, zero, suc, _+_, _-_, _*_, _/_}
 use mathlib.Core.List.{List, [], _∷_, _++_}
 use lib.Bits.{bitXor}
-use lib.ListN.{length, getD, set, take, drop}
-use Rattle.rules.specs.Supply.{Draw, split}
-use Rattle.rules.specs.Convert.{Adder}
-use Rattle.rules.specs.Standard.{H0, wordsOf, allBytes, padding, keyBlock}
-use Rattle.rules.specs.Sha1.{public, publics, openWords, compress}
+use lib.ListN.{length, getD, set, take, drop, replicate}
+use Rattle.words.specs.Word.{Word}
+use Rattle.rules.specs.Supply.{Draw, Count, Sharing, split}
+use Rattle.rules.specs.Hash.{Bytes, Hash, blockBytes, chainWords, digestBytes, numberOf, wordsOf, allBytes, padding, ending, keyBlock}
+use Rattle.rules.specs.Sha1.{publics, openWords}
+
+-- A hash in shares: the standard's, its compression of a block of 16 words into a chain, and how many words that draws
+pub record Masked : Type 0 where
+  pub standard : Hash
+  pub compress : Count → Sharing → Sharing → Draw Sharing
+  pub draws : Count → ℕ
 
 -- words split one after the other
-unfoldable pub splits : ℕ → List ℕ → Draw (List ℕ)
+unfoldable pub splits : Count → List Word → Draw Sharing
 splits n [] ws at = ([], at)
 splits n (v ∷ vs) ws at =
     let s = split n v ws at in
     let rest = splits n vs ws (s .1) in
     (s .0 ++ rest .0, rest .1)
 
--- A key of up to 64 bytes is padded on the right with zero bytes to 64, read as 16 big-endian words, and split word by word
-unfoldable pub splitKey : ℕ → List ℕ → Draw (List ℕ)
-splitKey n key = splits n (wordsOf 16 (keyBlock key))
+-- A key of up to one block is padded on the right with zero bytes to a block, read as 16 big-endian words, and split word by word
+unfoldable pub splitKey : Hash → Count → Bytes → Draw Sharing
+splitKey H n key = splits n (wordsOf (H .wordBytes) 16 (keyBlock H key))
 
 -- a XOR constant goes into share 1, of m words from word i on
-unfoldable pub marked : ℕ → ℕ → ℕ → ℕ → List ℕ → List ℕ
+unfoldable pub marked : Count → Word → ℕ → ℕ → Sharing → Sharing
 marked n c zero i z = z
 marked n c (suc m) i z = marked n c m (i + 1) (set z (i * n) (bitXor (getD z (i * n) 0) c))
 
--- m blocks of public words
-unfoldable pub blocks : ℕ → Adder → ℕ → ℕ → List ℕ → List ℕ → Draw (List ℕ)
-blocks k add n zero W h ws at = (h, at)
-blocks k add n (suc m) W h ws at =
-    let c = compress k add n h (publics n (take 16 W)) ws at in
-    blocks k add n m (drop 16 W) (c .0) ws (c .1)
+-- a key block: the byte c in every byte of share 1
+abbrev pub everyByte : Hash → ℕ → Word
+everyByte H c = numberOf (H .wordBytes) (replicate (H .wordBytes) c)
 
--- the message after the inner key block, with its padding
-unfoldable pub padded : List ℕ → List ℕ
-padded text = text ++ padding (64 + length text)
+abbrev pub keyed : Hash → Count → ℕ → Sharing → Sharing
+keyed H n c key = marked n (everyByte H c) 16 0 key
+
+-- m blocks in shares, compressed one after the other
+unfoldable pub blocks : Masked → Count → ℕ → Sharing → Sharing → Draw Sharing
+blocks M n zero W h ws at = (h, at)
+blocks M n (suc m) W h ws at =
+    let c = M .compress n h (take (16 * n) W) ws at in
+    blocks M n m (drop (16 * n) W) (c .0) ws (c .1)
+
+-- the digest block: a digest in shares, and its padding after one block and itself
+abbrev pub digestPadding : Hash → List Word
+digestPadding H = wordsOf (H .wordBytes) (16 - chainWords H) (padding H (blockBytes H + digestBytes H))
 
 -- HMAC compresses the inner key block, the message blocks, the outer key block, the digest block. The inner digest stays in shares.
-unfoldable pub hmacShares : ℕ → Adder → ℕ → List ℕ → List ℕ → Draw (List ℕ)
-hmacShares k add n key text ws at =
-    let rest = padded text in
-    let i = compress k add n (publics n H0) (marked n 0x36363636 16 0 key) ws at in
-    let d = blocks k add n (length rest / 64) (wordsOf (length rest / 4) rest) (i .0) ws (i .1) in
-    let o = compress k add n (publics n H0) (marked n 0x5c5c5c5c 16 0 key) ws (d .1) in
-    compress k add n (o .0) (d .0 ++ publics n (wordsOf 11 (padding 84))) ws (o .1)
+unfoldable pub hmacShares : Masked → Count → Sharing → Bytes → Draw Sharing
+hmacShares M n key text ws at =
+    let H = M .standard in
+    let W = ending H (blockBytes H) text in
+    let i = M .compress n (publics n (H .start)) (keyed H n 0x36 key) ws at in
+    let d = blocks M n (length W / 16) (publics n W) (i .0) ws (i .1) in
+    let o = M .compress n (publics n (H .start)) (keyed H n 0x5c key) ws (d .1) in
+    M .compress n (o .0) (d .0 ++ publics n (digestPadding H)) ws (o .1)
 
 -- Only the tag is opened
-unfoldable pub hmacTag : ℕ → Adder → ℕ → List ℕ → List ℕ → Draw (List ℕ)
-hmacTag k add n key text ws at =
-    let t = hmacShares k add n key text ws at in
-    (allBytes (openWords n 5 (t .0)), t .1)
+unfoldable pub hmacTag : Masked → Count → Sharing → Bytes → Draw Bytes
+hmacTag M n key text ws at =
+    let H = M .standard in
+    let t = hmacShares M n key text ws at in
+    (allBytes (H .wordBytes) (openWords n (chainWords H) (t .0)), t .1)

@@ -5,6 +5,14 @@ use mathlib.Core.List.{List, [], _∷_, _++_}
 use lib.Bits.{bitXor}
 use lib.ListN.{length, getD}
 
+-- how many shares
+abbrev pub Count : Type 0
+Count = ℕ
+
+-- the shares of a word, or of several words one after the other
+abbrev pub Sharing : Type 0
+Sharing = List ℕ
+
 -- A rule that draws: from the lent words and the place of the next unused one, what it makes and the place after the words that it drew.
 abbrev pub Draw : Type 0 → Type 0
 Draw S = List ℕ → ℕ → S × ℕ

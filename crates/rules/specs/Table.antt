@@ -8,7 +8,7 @@ use Rattle.rules.specs.Goubin.{psi, b2aRecord, a2bStart, a2bRound, a2bRo
 use Rattle.rules.specs.Supply.{next, opened}
 use Rattle.rules.specs.Shares.{each, pass, along, order, column, refreshLast, refresh, expand, and, carries, add}
 use Rattle.rules.specs.Convert.{widen, halved, toBoolIn, toBool, toArith}
-use Rattle.rules.specs.Counts.{andDraws, quarterAnds, roundsAnds, compressAnds, hmacDraws}
+use Rattle.rules.specs.Counts.{andDraws, quarterAnds, roundsAnds, compressAnds, hmacDraws, sha1}
 
 pub record Row : Type 0 where
   pub given : List ℕ
@@ -41,7 +41,7 @@ table =
     -- P10: Boolean to arithmetic at 1, 2, 4 and 8 shares, as the conversion itself draws
     row (map (λ n. toArith 32 (add 32) refresh (replicate n 0) [] 0 .1) (1 ∷ 2 ∷ 4 ∷ 8 ∷ [])) (0 ∷ 68 ∷ 462 ∷ 2342 ∷ []) ∷
     -- P11: HMAC at 2 shares, of 55 and of 56 bytes; that HMAC draws so is hmacShares-sized of proofs/Sizes.antt
-    row (map (hmacDraws 32 2) (55 ∷ 56 ∷ [])) (41760 ∷ 52200 ∷ []) ∷
+    row (map (hmacDraws (sha1 32) 2) (55 ∷ 56 ∷ [])) (41760 ∷ 52200 ∷ []) ∷
     []
 
 pub reference : map (λ (r : Row). r .given) table ≡ map (λ (r : Row). r .stated) table

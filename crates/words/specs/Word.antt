@@ -1,6 +1,14 @@
 -- Words of k bits, as numbers below 2^k. XOR and AND are the library's bitXor and bitAnd.
 use Prim.Native.Nat.{ℕ, _+_, _-_, _*_, _%_, _^_}
 
+-- how many bits a word has
+abbrev pub Width : Type 0
+Width = ℕ
+
+-- a word, as a number
+abbrev pub Word : Type 0
+Word = ℕ
+
 -- a + b modulo 2^k
 unfoldable pub plus : ℕ → ℕ → ℕ → ℕ
 plus k a b = (a + b) % 2 ^ k

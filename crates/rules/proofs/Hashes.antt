@@ -1,0 +1,179 @@
+-- What is asked of a hash, and what follows: how long texts are with their padding, and hashing block by block.
+use Prim.Native.Nat.{ℕ, zero, suc, _+_, _-_, _*_, _/_, _≤_, _<_}
+use mathlib.Core.Path.{_≡_, refl, sym, ap, ap₂, _∙_}
+use mathlib.Core.List.{List, [], _∷_, _++_, map, append-assoc}
+use native.Mathlib.Nat.{add-div-left, mul-add-div, mul-div-right, mul-assoc, mul-comm, mul-add, add-mul, zero-add}
+use native.Mathlib.Omega.{arith}
+use lib.Bits.{bitXor}
+use lib.Dec.{lit<}
+use lib.ListN.{length, replicate, take, drop, length-append, length-map, length-replicate}
+use lib.Seq.{take-at, drop-at, take-all}
+use Rattle.rules.specs.Supply.{Words}
+use Rattle.rules.specs.Hash.{Hash, blockBytes, chainWords, digestBytes, wordsOf, allBytes, padding, ended, ending}
+use Rattle.rules.specs.Hash.{blocks, digest, keyBlock, hmac}
+use Rattle.rules.specs.Hmac.{everyByte, digestPadding}
+use Rattle.rules.proofs.Bytes.{words-join, words-zeros, bytes-are-words, padding-is-bytes, length-words, length-allBytes}
+use Rattle.rules.proofs.Bytes.{words-append, words-back, words-xor}
+
+-- a chain of the hash's words
+abbrev pub Chained : Hash → List ℕ → Type 0
+Chained H h = (length h ≡ chainWords H) × Words (8 * H .wordBytes) h
+
+-- a text with its padding is whole blocks; the digest and its padding are one block; a compression makes a chain
+pub record Proper (H : Hash) : Type 0 where
+  pub some : 0 < H .wordBytes
+  pub whole : (l : ℕ) → l + length (padding H l) ≡ blockBytes H * ((l + H .lengthBytes) / blockBytes H + 1)
+  pub rest : length (padding H (blockBytes H + digestBytes H)) ≡ (16 - chainWords H) * H .wordBytes
+  pub short : chainWords H ≤ 16
+  pub makes : (h B : List ℕ) → length h ≡ chainWords H → Chained H (H .compress h B)
+
+-- HMAC's words, of a key in words: the message's blocks after the inner key block, then the digest block after the outer
+abbrev lastOf : Hash → List ℕ → List ℕ → List ℕ → List ℕ
+lastOf H text inner outer =
+    let W = ending H (blockBytes H) text in
+    H .compress (H .compress (H .start) outer) (blocks H (length W / 16) W (H .compress (H .start) inner) ++ digestPadding H)
+
+unfoldable pub hmacOf : Hash → List ℕ → List ℕ → List ℕ
+hmacOf H key text =
+    lastOf H text (map (λ v. bitXor v (everyByte H 0x36)) key) (map (λ v. bitXor v (everyByte H 0x5c)) key)
+
+module _ (H : Hash) (proper : Proper H) where
+  abbrev B : ℕ
+  B = blockBytes H
+
+  abbrev size : ℕ
+  size = H .wordBytes
+
+  a-block : 0 < B
+  a-block = omega (arith, proper .some)
+
+  -- how many blocks the text makes after a block, with its padding
+  abbrev blocksOf : List ℕ → ℕ
+  blocksOf text = (length text + H .lengthBytes) / B + 1
+
+  pub ended-length : (text : List ℕ) → length (ended H B text) ≡ B * blocksOf text
+  unfolding ended
+  ended-length text =
+      let l = length text in
+      let q = (l + H .lengthBytes) / B in
+      let more : (B + (l + H .lengthBytes)) / B ≡ q + 1 = add-div-left (l + H .lengthBytes) a-block in
+      let all : B + l + length (padding H (B + l)) ≡ B * (q + 1 + 1) =
+      proper .whole (B + l) ∙ ap (λ t. B * (t + 1)) (ap (λ t. t / B) (assoc B l (H .lengthBytes)) ∙ more) in
+      length-append text (padding H (B + l)) ∙ omega (arith, all, mul-add B (q + 1) 1)
+    where
+      assoc : (a b c : ℕ) → a + b + c ≡ a + (b + c)
+      assoc a b c = omega arith
+
+  pub ending-length : (text : List ℕ) → length (ending H B text) ≡ 16 * blocksOf text
+  unfolding ending
+  ending-length text =
+      length-words size (length (ended H B text) / size) (ended H B text)
+      ∙ ap (λ t. t / size) (ended-length text ∙ regroup (blocksOf text))
+      ∙ mul-div-right (16 * blocksOf text) (proper .some)
+    where
+      regroup : (q : ℕ) → 16 * size * q ≡ size * (16 * q)
+      regroup q = ap (λ t. t * q) (mul-comm 16 size) ∙ mul-assoc size 16 q
+
+  pub ending-blocks : (text : List ℕ) → length (ending H B text) / 16 ≡ blocksOf text
+  ending-blocks text = ap (λ t. t / 16) (ending-length text) ∙ mul-div-right (blocksOf text) (lit< tt)
+
+  pub ending-words : (text : List ℕ) → Words 8 text → Words (8 * size) (ending H B text)
+  unfolding ending ended
+  ending-words text bytes =
+      bytes-are-words size _ (text ++ padding H (B + length text))
+      (words-join 8 text (padding H (B + length text)) bytes (padding-is-bytes H (B + length text)))
+
+  -- ---- chains
+  blocks-chain : (m : ℕ) (W h : List ℕ) → Chained H h → Chained H (blocks H m W h)
+  unfolding blocks
+  blocks-chain zero W h c = c
+  blocks-chain (suc m) W h c = blocks-chain m (drop 16 W) _ (proper .makes h (take 16 W) (c .0))
+
+  blocks-next : (m : ℕ) (W h : List ℕ) → blocks H (suc m) W h ≡ blocks H m (drop 16 W) (H .compress h (take 16 W))
+  unfolding blocks
+  blocks-next m W h = refl
+
+  blocks-one : (W h : List ℕ) → length W ≡ 16 → blocks H 1 W h ≡ H .compress h W
+  unfolding blocks
+  blocks-one W h l = ap (H .compress h) (take-all 16 W (omega arith))
+
+  -- ---- a block and more: the first block, then the rest with its padding
+  module _ (x y : List ℕ) (block : length x ≡ B) where
+    front-words : ending H 0 (x ++ y) ≡ wordsOf size 16 x ++ ending H B y
+    unfolding ending ended
+    front-words =
+        let r = y ++ padding H (B + length y) in
+        let counted : length (x ++ y) ≡ B + length y = length-append x y ∙ ap (λ t. t + length y) block in
+        let whole : x ++ y ++ padding H (0 + length (x ++ y)) ≡ x ++ r =
+        append-assoc x y _ ∙ ap (λ t. x ++ (y ++ padding H t)) (zero-add (length (x ++ y)) ∙ counted) in
+        let many : length (x ++ r) / size ≡ 16 + length r / size =
+        ap (λ t. t / size) (length-append x r ∙ ap (λ t. t + length r) (block ∙ mul-comm 16 size))
+        ∙ mul-add-div (proper .some) 16 (length r) in
+        rw (whole, many) (words-append size 16 (length r / size) x r block)
+
+    pub digest-front : (W : List ℕ) → W ≡ ending H B y
+        → digest H (x ++ y) ≡ allBytes size (blocks H (length W / 16) W (H .compress (H .start) (wordsOf size 16 x)))
+    unfolding digest
+    digest-front W e =
+        let first = wordsOf size 16 x in
+        let sixteen : length first ≡ 16 = length-words size 16 x in
+        let many : length (first ++ W) / 16 ≡ suc (length W / 16) = omega (arith, length-append first W) in
+        rw (front-words, ← e, many, blocks-next, take-at first W 16 sixteen, drop-at first W 16 sixteen)
+
+  -- ---- after a block and a digest, one block more
+  module _ (D : List ℕ) (chain : Chained H D) where
+    last-words : ending H B (allBytes size D) ≡ D ++ digestPadding H
+    unfolding ending ended
+    last-words =
+        let c = chainWords H in
+        let y = allBytes size D in
+        let bytes : length y ≡ c * size = length-allBytes size D ∙ ap (λ t. t * size) (chain .0) in
+        let pad = padding H (B + c * size) in
+        let long : length (y ++ pad) ≡ size * 16 =
+        length-append y pad ∙ omega (arith, bytes, proper .rest, parts c (16 - c) (omega (arith, proper .short))) in
+        let many : length (y ++ pad) / size ≡ c + (16 - c) =
+        ap (λ t. t / size) long ∙ mul-div-right 16 (proper .some) ∙ omega (arith, proper .short) in
+        rw (bytes, many) (words-append size c (16 - c) y pad bytes ∙ ap (λ t. t ++ digestPadding H) (rw (chain .0) at (words-back size D (chain .1))))
+      where
+        parts : (a b : ℕ) → a + b ≡ 16 → a * size + b * size ≡ size * 16
+        parts a b e = sym (add-mul a b size) ∙ ap (λ t. t * size) e ∙ mul-comm 16 size
+
+    pub digest-last : (x : List ℕ) → length x ≡ B
+        → digest H (x ++ allBytes size D) ≡ allBytes size (H .compress (H .compress (H .start) (wordsOf size 16 x)) (D ++ digestPadding H))
+    digest-last x block =
+        let W = D ++ digestPadding H in
+        let sixteen : length W ≡ 16 =
+        length-append D (digestPadding H)
+        ∙ omega (arith, chain .0, proper .short, length-words size (16 - chainWords H) (padding H (B + digestBytes H))) in
+        digest-front x (allBytes size D) block W (sym last-words)
+        ∙ rw (sixteen, blocks-one W (H .compress (H .start) (wordsOf size 16 x)) sixteen)
+
+  module _ (key text : List ℕ) (short : length key ≤ B) (bytes : Words 8 key) where
+    key-length : length (keyBlock H key) ≡ B
+    unfolding keyBlock
+    key-length = length-append key (replicate (B - length key) 0) ∙ rw (length-replicate {A = ℕ} (B - length key) 0) (omega arith)
+
+    pub key-bytes : Words 8 (keyBlock H key)
+    unfolding keyBlock
+    key-bytes = words-join 8 key (replicate (B - length key) 0) bytes (words-zeros 8 (B - length key))
+
+    -- over the key's words it is the standard's HMAC
+    pub hmacOf-is : allBytes size (hmacOf H (wordsOf size 16 (keyBlock H key)) text) ≡ hmac H key text
+    unfolding hmacOf hmac
+    hmacOf-is =
+        let b = keyBlock H key in
+        let W = ending H B text in
+        let x = map (bitXor 0x36) b in
+        let y = map (bitXor 0x5c) b in
+        let first = H .compress (H .start) (wordsOf size 16 x) in
+        let chain = blocks-chain (length W / 16) W first (proper .makes (H .start) (wordsOf size 16 x) refl) in
+        sym (ap₂ (λ i o. allBytes size (lastOf H text i o)) (marks 0x36 (lit< tt)) (marks 0x5c (lit< tt)))
+        ∙ sym (digest-last (blocks H (length W / 16) W first) chain y (xored 0x5c))
+        ∙ ap (λ t. digest H (y ++ t)) (sym (digest-front x text (xored 0x36) W refl))
+      where
+        xored : (v : ℕ) → length (map (bitXor v) (keyBlock H key)) ≡ B
+        xored v = length-map (keyBlock H key) (bitXor v) ∙ key-length
+
+        marks : (v : ℕ) → v < 256
+            → wordsOf size 16 (map (bitXor v) (keyBlock H key)) ≡ map (λ w. bitXor w (everyByte H v)) (wordsOf size 16 (keyBlock H key))
+        marks v h = words-xor v size 16 (keyBlock H key) h key-bytes key-length

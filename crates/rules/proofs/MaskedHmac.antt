@@ -1,0 +1,124 @@
+-- Masked HMAC over any hash in shares, once for all that is said of it: `Good x X` is what is kept of the shares x of the word X.
+-- Of any Good that the hash keeps, HMAC keeps it, draws so many words, and no other word has a say.
+use Prim.Native.Nat.{ℕ, zero, suc, _+_, _-_, _*_, _/_, _^_, _≤_, _<_}
+use mathlib.Core.Path.{_≡_, refl, sym, ap, _∙_, subst}
+use mathlib.Core.List.{List, [], _∷_, _++_, map}
+use native.Mathlib.Nat.{suc-mul, zero-mul, add-mul, zero-add, suc-add, mul-comm}
+use native.Mathlib.Omega.{arith}
+use lib.Bits.{bitXor}
+use lib.ListN.{length, getD, set, take, drop, List·getD-append}
+use lib.Seq.{set-append-left, getD-append-add}
+use Rattle.rules.specs.Supply.{Rule, Shares}
+use Rattle.rules.specs.Hash.{Hash, blockBytes, chainWords, padding, ending, blocks as blocksOf}
+use Rattle.rules.specs.Sha1.{public, publics}
+use Rattle.rules.specs.Hmac.{Masked, splits, marked, everyByte, keyed, blocks, digestPadding, hmacShares}
+use Rattle.rules.specs.Counts.{compressions}
+use Rattle.rules.proofs.Rule.{give, bind, counted}
+use Rattle.rules.proofs.Addition.{split-rule}
+use Rattle.rules.proofs.Bytes.{length-words, every-lt, bytes-are-words, padding-is-bytes}
+use Rattle.rules.proofs.Goods.{Goods, none, more, join, goods-front, goods-rest}
+use Rattle.rules.proofs.Hashes.{Proper, ending-length, ending-blocks, hmacOf}
+
+-- what a hash in shares keeps; Fits says which public values may enter
+pub record Keeps (M : Masked) (n : ℕ) (Fits : ℕ → Type 0) (Good : List ℕ → ℕ → Type 0) : Type 0 where
+  pub size : (x : List ℕ) (X : ℕ) → Good x X → length x ≡ n
+  pub compresses : {h C block B : List ℕ} → Goods Good (chainWords (M .standard)) h C → Goods Good 16 block B
+      → Rule (M .draws n) (λ z. Goods Good (chainWords (M .standard)) z (M .standard .compress C B)) (M .compress n h block)
+  pub shows : (v : ℕ) → Fits v → Good (public n v) v
+  pub marks : {x : List ℕ} {X : ℕ} (c : ℕ) → Fits c → Good x X → Good (set x 0 (bitXor (getD x 0 0) c)) (bitXor X c)
+  pub starts : (i : ℕ) → i < chainWords (M .standard) → Fits (getD (M .standard .start) i 0)
+  pub fits : (v : ℕ) → v < 2 ^ (8 * M .standard .wordBytes) → Fits v
+
+module _ {M : Masked} {n : ℕ} {Fits : ℕ → Type 0} {Good : List ℕ → ℕ → Type 0} (keeps : Keeps M n Fits Good) where
+  abbrev H : Hash
+  H = M .standard
+
+  abbrev c : ℕ
+  c = chainWords H
+
+  -- ---- a constant XORed into share 1 of every word
+  set-later : (x s : List ℕ) (i a : ℕ) → set (x ++ s) (length x + i) a ≡ x ++ set s i a
+  set-later [] s i a = rw zero-add
+  set-later (b ∷ x) s i a = rw (suc-add (length x) i) (ap (λ (l : List ℕ). b ∷ l) (set-later x s i a))
+
+  marked-later : (v j i : ℕ) (x s : List ℕ) → length x ≡ n → marked n v j (i + 1) (x ++ s) ≡ x ++ marked n v j i s
+  unfolding marked
+  marked-later v zero i x s h = refl
+  marked-later v (suc j) i x s h =
+      let e : (i + 1) * n ≡ length x + i * n = omega (arith, h, add-mul i 1 n) in
+      rw (e, getD-append-add x s (i * n) 0, set-later x s (i * n))
+      (marked-later v j (i + 1) x (set s (i * n) (bitXor (getD s (i * n) 0) v)) h)
+
+  marked-of : {m : ℕ} {z Z : List ℕ} (v : ℕ) → 0 < n → Fits v → Goods Good m z Z
+      → Goods Good m (marked n v m 0 z) (map (λ w. bitXor w v) Z)
+  unfolding marked
+  marked-of v h l none = none
+  marked-of v h l (more {m} {X} {x} {s} g gs) =
+      let some : 0 < length x = omega (arith, keeps .size x X g) in
+      let first = keeps .marks v l g in
+      let y = set x 0 (bitXor (getD x 0 0) v) in
+      rw (zero-mul n, List·getD-append x s 0 0 some, set-append-left x s 0 (bitXor (getD x 0 0) v) some)
+      (rw (← marked-later v m 0 y s (keeps .size y (bitXor X v) first)) at (more first (marked-of v h l gs)))
+
+  -- ---- public words
+  publics-of : (m : ℕ) (s : List ℕ) → length s ≡ m → ((i : ℕ) → i < m → Fits (getD s i 0)) → Goods Good m (publics n s) s
+  unfolding publics
+  publics-of zero [] l h = none
+  publics-of zero (a ∷ s) l h = absurd (omega arith)
+  publics-of (suc m) [] l h = absurd (omega arith)
+  publics-of (suc m) (a ∷ s) l h =
+      more (keeps .shows a (h 0 (omega arith))) (publics-of m s (omega arith) (λ i b. h (suc i) (omega arith)))
+
+  -- ---- blocks in shares
+  pub blocks-rule : (m : ℕ) {W S h C : List ℕ} → Goods Good (m * 16) W S → Goods Good c h C
+      → Rule (m * M .draws n) (λ z. Goods Good c z (blocksOf H m S C)) (blocks M n m W h)
+  unfolding blocks blocksOf
+  blocks-rule zero {W} {S} {h} {C} gw g = counted (give (λ z. Goods Good c z C) h g) (sym (zero-mul (M .draws n)))
+  blocks-rule (suc m) gw g =
+      let block = goods-front (keeps .size) 16 (omega arith) gw in
+      let rest = goods-rest (keeps .size) {q = m * 16} 16 (omega arith) gw in
+      counted (bind (keeps .compresses g block) (λ z gz. blocks-rule m rest gz)) (omega (arith, suc-mul m (M .draws n)))
+
+  -- ---- HMAC
+  module _ (proper : Proper H) (some : 0 < n) where
+    fits-digest : (i : ℕ) → Fits (getD (digestPadding H) i 0)
+    fits-digest i = keeps .fits _ (bytes-are-words (H .wordBytes) (16 - c) _ (padding-is-bytes H _) i)
+
+    fits-every : (b : ℕ) → b < 256 → Fits (everyByte H b)
+    fits-every b h = keeps .fits _ (every-lt b (H .wordBytes) h)
+
+    pub hmac-rule : {key KEY : List ℕ} (text : List ℕ) → ((i : ℕ) → Fits (getD (ending H (blockBytes H) text) i 0))
+        → Goods Good 16 key KEY
+        → Rule (compressions H (length text) * M .draws n) (λ z. Goods Good c z (hmacOf H KEY text)) (hmacShares M n key text)
+    unfolding hmacShares hmacOf
+    hmac-rule {key} {KEY} text u g =
+        let W = ending H (blockBytes H) text in
+        let d = M .draws n in
+        let q = (length text + H .lengthBytes) / blockBytes H in
+        let start = publics-of c (H .start) refl (keeps .starts) in
+        let last = publics-of (16 - c) (digestPadding H) (length-words (H .wordBytes) (16 - c) _) (λ i b. fits-digest i) in
+        let message = publics-of (length W / 16 * 16) W (omega (arith, ending-length H proper text)) (λ i b. u i) in
+        counted
+        (bind (keeps .compresses start (marked-of (everyByte H 0x36) some (fits-every 0x36 (omega arith)) g)) (λ i gi.
+        bind (blocks-rule (length W / 16) message gi) (λ e ge.
+        bind (keeps .compresses start (marked-of (everyByte H 0x5c) some (fits-every 0x5c (omega arith)) g)) (λ o go.
+        keeps .compresses go (sixteen (join ge last))))))
+        (omega (arith, ap (λ t. t * d) (ending-blocks H proper text), add-mul q 1 d, add-mul q 4 d))
+      where
+        sixteen : {s S : List ℕ} → Goods Good (c + (16 - c)) s S → Goods Good 16 s S
+        sixteen {s} {S} = subst (λ m. Goods Good m s S) (omega (arith, proper .short))
+
+-- ---- words split one after the other
+abbrev pub Split : ℕ → List ℕ → ℕ → Type 0
+Split n x X = Shares n X x
+
+pub splits-rule : (n : ℕ) (vs : List ℕ) → 0 < n
+    → Rule (length vs * (n - 1)) (λ z. Goods (Split n) (length vs) z vs) (splits n vs)
+unfolding splits
+splits-rule n [] h = counted (give (λ z. Goods (Split n) 0 z []) [] none) (sym (zero-mul (n - 1)))
+splits-rule n (v ∷ vs) h =
+    counted
+    (bind (split-rule n v h) (λ x g.
+    bind (splits-rule n vs h) (λ z gs.
+    give (λ z. Goods (Split n) (suc (length vs)) z (v ∷ vs)) (x ++ z) (more g gs))))
+    (omega (arith, suc-mul (length vs) (n - 1)))

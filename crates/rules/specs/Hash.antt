@@ -1,0 +1,80 @@
+-- FIPS 180-4, what its hashes have in common, and RFC 2104 over any of them, unmasked. Numbers are the standards' sections.
+use Prim.Native.Nat.{ℕ, zero, suc, _+_, _-_, _*_, _/_, _%_, _^_}
+use mathlib.Core.List.{List, [], _∷_, _++_, map}
+use lib.Bits.{bitXor}
+use lib.ListN.{length, getD, replicate, take, drop}
+use Rattle.words.specs.Word.{Word}
+
+abbrev pub Bytes : Type 0
+Bytes = List ℕ
+
+-- What the hashes differ in: the bytes of a word, the starting chain (5.3), the chain after one block of 16 words (6), and the
+-- bytes of the padding's length field (5.1). The digest is the whole chain.
+pub record Hash : Type 0 where
+  pub wordBytes : ℕ
+  pub start : List Word
+  pub compress : List Word → List Word → List Word
+  pub lengthBytes : ℕ
+
+abbrev pub blockBytes : Hash → ℕ
+blockBytes H = 16 * H .wordBytes
+
+abbrev pub chainWords : Hash → ℕ
+chainWords H = length (H .start)
+
+abbrev pub digestBytes : Hash → ℕ
+digestBytes H = chainWords H * H .wordBytes
+
+-- 3.1, big-endian: a number as m bytes, and the number of m bytes
+unfoldable pub bytesOf : ℕ → ℕ → Bytes
+bytesOf zero v = []
+bytesOf (suc m) v = v / 256 ^ m % 256 ∷ bytesOf m v
+
+unfoldable pub numberOf : ℕ → Bytes → ℕ
+numberOf zero b = 0
+numberOf (suc m) b = numberOf m b * 256 + getD b m 0
+
+-- m words of so many bytes each; words as bytes
+unfoldable pub wordsOf : ℕ → ℕ → Bytes → List Word
+wordsOf size zero b = []
+wordsOf size (suc m) b = numberOf size b ∷ wordsOf size m (drop size b)
+
+unfoldable pub allBytes : ℕ → List Word → Bytes
+allBytes size [] = []
+allBytes size (w ∷ ws) = bytesOf size w ++ allBytes size ws
+
+-- 5.1: the padding after l bytes: a one bit, zeros, and the count of bits, up to the end of a block
+unfoldable pub zeros : Hash → ℕ → ℕ
+zeros H l = let block = blockBytes H in (block + block - (1 + H .lengthBytes) - l % block) % block
+
+unfoldable pub padding : Hash → ℕ → Bytes
+padding H l = 0x80 ∷ replicate (zeros H l) 0 ++ bytesOf (H .lengthBytes) (l * 8)
+
+-- 5.2: what is hashed after `before` bytes that went into the chain already: the text with its padding, as words
+unfoldable pub ended : Hash → ℕ → Bytes → Bytes
+ended H before text = text ++ padding H (before + length text)
+
+unfoldable pub ending : Hash → ℕ → Bytes → List Word
+ending H before text =
+    let rest = ended H before text in
+    wordsOf (H .wordBytes) (length rest / H .wordBytes) rest
+
+-- 6: the chain after m blocks
+unfoldable pub blocks : Hash → ℕ → List Word → List Word → List Word
+blocks H zero W h = h
+blocks H (suc m) W h = blocks H m (drop 16 W) (H .compress h (take 16 W))
+
+unfoldable pub digest : Hash → Bytes → Bytes
+digest H message =
+    let W = ending H 0 message in
+    allBytes (H .wordBytes) (blocks H (length W / 16) W (H .start))
+
+-- RFC 2104, 2: the key, of at most one block, with zeros appended to a block
+unfoldable pub keyBlock : Hash → Bytes → Bytes
+keyBlock H key = key ++ replicate (blockBytes H - length key) 0
+
+-- H(K XOR opad, H(K XOR ipad, text))
+unfoldable pub hmac : Hash → Bytes → Bytes → Bytes
+hmac H key text =
+    let inner = digest H (map (bitXor 0x36) (keyBlock H key) ++ text) in
+    digest H (map (bitXor 0x5c) (keyBlock H key) ++ inner)
