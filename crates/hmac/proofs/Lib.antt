@@ -1,4 +1,2 @@
-pub mod Padding
-pub mod Blocks
 pub mod Steps
-pub mod Tags
+pub mod Opened

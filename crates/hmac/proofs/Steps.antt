@@ -1,77 +1,143 @@
 -- The steps of HMAC, each made from its parts, and how many words they draw.
 use Prim.Native.Nat.{ℕ, suc, _+_, _-_, _*_, _/_, _≤_, _<_}
-use mathlib.Core.Path.{_≡_, sym, ap, _∙_}
-use mathlib.Core.List.{List, _++_}
+use mathlib.Core.Path.{_≡_, refl, sym, ap, _∙_}
+use mathlib.Core.List.{List, [], _∷_, _++_, map, append-nil}
 use native.Mathlib.Omega.{arith}
-use native.Mathlib.Nat.{add-mul}
-use lib.ListN.{length, take, drop}
-use lib.Seq.{drop-drop}
-use Rattle.rules.specs.Convert.{Adder}
-use Rattle.rules.specs.Counts.{compressions}
-use Rattle.rules.specs.Standard.{H0, wordsOf, padding, allBytes}
-use Rattle.rules.specs.Sha1.{publics, openWords, compress, used, chainOf}
-use Rattle.rules.specs.Hmac.{marked, blocks, padded, hmacShares, hmacTag}
-use Rattle.hmac.proofs.Padding.{length-padded}
+use native.Mathlib.Nat.{add-mul, mul-comm, mul-assoc, sub-zero, zero-mul}
+use lib.Bits.{bitXor}
+use lib.ListN.{length, getD, set, take, drop, length-drop, drop-of-length-le}
+use lib.Seq.{take-at, drop-at, drop-drop}
+use Rattle.rules.specs.Hash.{bytesOf, numberOf, wordsOf, zeros, padding, allBytes, ending}
+use Rattle.rules.specs.Standard.{SHA1, H0}
+use Rattle.rules.specs.Sha1.{publics, openWords, used, chainOf}
+use Rattle.rules.specs.Hmac.{Masked, marked, blocks, digestPadding, hmacShares, hmacTag}
+use Rattle.rules.specs.Counts.{compressions, sha1}
+use Rattle.rules.specs.Numbers.{largest}
+use Rattle.rules.proofs.Loops.{chain-length}
+use Rattle.rules.proofs.Hashes.{ending-blocks}
+use Rattle.rules.proofs.Tags.{sha1-proper}
+use Rattle.hash.specs.Hash.{hash}
+use Rattle.hash.proofs.Publics.{place-room, start-used, publics-part}
+use Rattle.padding.specs.Whole.{blocksIn}
 use Rattle.sha1.proofs.Parts.{used-lent}
-use Rattle.hmac.proofs.Blocks.{place-room, start-used}
 
 abbrev Run : Type 0
 Run = List ℕ × ℕ
 
--- ---- one compression, of a block that was made so
-module _ (k : ℕ) (add : Adder) (n : ℕ) (ws : List ℕ) (at : ℕ) where
-  pub block-made : (h values : List ℕ) {v b : List ℕ} {o : Run} → v ≡ values → b ≡ publics n v → compress k add n h b ws at ≡ o → compress k add n h (publics n values) ws at ≡ o
-  block-made h values e f g = rw (← e, ← f) g
+-- ---- a constant in share 1 of each word
+module _ (n c : ℕ) (z e : List ℕ) where
+  pub mark-room : (w : ℕ) → 0 < n → w < 16 → length z ≡ 16 * n → w * n < length z
+  mark-room w some h l = omega (arith, place-room 16 n w h)
 
-  pub key-made : (c : ℕ) (key : List ℕ) {s b : List ℕ} {o : Run} → 0 < n → s ≡ chainOf n (publics n H0) → b ≡ marked n c 16 0 key → compress k add n (used n s) b ws at ≡ o
-      → compress k add n (publics n H0) (marked n c 16 0 key) ws at ≡ o
+  pub marked-next : (w : ℕ) (y : List ℕ) → w < 16 → y ≡ set z (w * n) (bitXor (getD z (w * n) 0) c)
+      → marked n c (16 - w) w z ≡ e → marked n c (16 - (w + 1)) (w + 1) y ≡ e
+  unfolding marked
+  marked-next w y h f p = let q : 16 - w ≡ suc (16 - (w + 1)) = omega arith in rw f (rw q at p)
+
+  pub marked-end : (w : ℕ) → 16 ≤ w → marked n c (16 - w) w z ≡ e → z ≡ e
+  unfolding marked
+  marked-end w h p = let q : 16 - w ≡ 0 = omega arith in rw q at p
+
+pub chain-room : (n : ℕ) (chain : List ℕ) → length (map (λ (v : ℕ). v) chain) ≡ 5 * largest → n ≤ largest → 5 * n ≤ length chain
+chain-room n chain e h = omega (arith, chain-length chain e)
+
+pub public-made : (n : ℕ) (values v z : List ℕ) → v ≡ values → z ≡ publics n v → z ≡ publics n values
+public-made n values v z e f = rw (← e) f
+
+pub public-room : (n l m : ℕ) → l ≡ 16 → m ≡ 16 * n → m ≡ l * n
+public-room n l m e f = rw e f
+
+-- ---- one compression, of a block that was made so
+module _ (n : ℕ) (ws : List ℕ) (at : ℕ) where
+  pub block-made : (h x : List ℕ) {b : List ℕ} {o : Run} → b ≡ x → hash .compress n h b ws at ≡ o → hash .compress n h x ws at ≡ o
+  block-made h x e g = rw (← e) g
+
+  pub key-made : (c : ℕ) (key : List ℕ) {s b : List ℕ} {o : Run} → 0 < n → s ≡ chainOf n (publics n H0) → b ≡ marked n c 16 0 key
+      → hash .compress n (used n s) b ws at ≡ o → hash .compress n (publics n H0) (marked n c 16 0 key) ws at ≡ o
   key-made c key h e f g = rw (← f, ← start-used n h, ← e) g
 
-  pub digest-step-made : (h inner x : List ℕ) {b : List ℕ} {o : Run} → b ≡ take (5 * n - 0) inner ++ x → compress k add n h b ws at ≡ o → compress k add n h (used n inner ++ x) ws at ≡ o
+  pub digest-step-made : (h inner x : List ℕ) {b : List ℕ} {o : Run} → b ≡ take (5 * n - 0) inner ++ x
+      → hash .compress n h b ws at ≡ o → hash .compress n h (used n inner ++ x) ws at ≡ o
   digest-step-made h inner x e f = rw (← used-lent n inner, ← e) f
 
   pub hmac-made : (key text : List ℕ) {i d o : List ℕ} {p q r : ℕ} {e : Run}
-      → compress k add n (publics n H0) (marked n 0x36363636 16 0 key) ws at ≡ (i, p) → blocks k add n ((length text + 8) / 64 + 1) (wordsOf (length (padded text) / 4) (padded text)) i ws p ≡ (d, q)
-      → compress k add n (publics n H0) (marked n 0x5c5c5c5c 16 0 key) ws q ≡ (o, r) → compress k add n o (d ++ publics n (wordsOf 11 (padding 84))) ws r ≡ e
-      → hmacShares k add n key text ws at ≡ e
-  unfolding hmacShares
-  hmac-made key text a b c f =
-      let count : length (padded text) / 64 ≡ (length text + 8) / 64 + 1 = omega (arith, length-padded text) in
-      rw (count, a, b, c, f)
+      → hash .compress n (publics n H0) (marked n 0x36363636 16 0 key) ws at ≡ (i, p)
+      → blocks hash n (blocksIn (length text)) (publics n (ending (SHA1 32) 64 text)) i ws p ≡ (d, q)
+      → hash .compress n (publics n H0) (marked n 0x5c5c5c5c 16 0 key) ws q ≡ (o, r)
+      → hash .compress n o (d ++ publics n (digestPadding (SHA1 32))) ws r ≡ e → hmacShares hash n key text ws at ≡ e
+  unfolding hmacShares numberOf
+  hmac-made key text a b c f = rw (ending-blocks (SHA1 32) sha1-proper text, a, b, c, f)
 
--- ---- the message blocks, one after the other
-module _ (k : ℕ) (add : Adder) (n : ℕ) (ws : List ℕ) (count j : ℕ) (W h : List ℕ) (at : ℕ) (e : List ℕ × ℕ) where
-  pub blocks-next : {h1 : List ℕ} {p : ℕ} → j < count → compress k add n h (publics n (take 16 (drop (16 * j) W))) ws at ≡ (h1, p)
-      → blocks k add n (count - j) (drop (16 * j) W) h ws at ≡ e → blocks k add n (count - (j + 1)) (drop (16 * (j + 1)) W) h1 ws p ≡ e
+-- ---- the blocks of a text, one after the other: j of them done
+abbrev pub Left : ℕ → List ℕ → List ℕ → ℕ → ℕ → List ℕ → ℕ → Run
+Left n ws W count j g p = blocks hash n (count - j) (drop (j * (16 * n)) (publics n W)) g ws p
+
+module _ (n : ℕ) (ws W : List ℕ) (count : ℕ) (e : Run) where
+  pub blocks-next : (j p q : ℕ) (g g1 : List ℕ) → 0 < n → j < count
+      → hash .compress n g (publics n (take 16 (drop (16 * j) W))) ws p ≡ (g1, q)
+      → Left n ws W count j g p ≡ e → Left n ws W count (j + 1) g1 q ≡ e
   unfolding blocks
-  blocks-next l f q =
+  blocks-next j p q g g1 some l f inv =
       let m : count - j ≡ suc (count - (j + 1)) = omega arith in
-      let i : 16 * j + 16 ≡ 16 * (j + 1) = omega arith in
-      let g : drop 16 (drop (16 * j) W) ≡ drop (16 * (j + 1)) W = drop-drop 16 (16 * j) W ∙ ap (λ t. drop t W) i in
-      rw (← g) (sym (ap (λ (r : List ℕ × ℕ). blocks k add n (count - (j + 1)) (drop 16 (drop (16 * j) W)) (r .0) ws (r .1)) f) ∙ (rw m at q))
+      let P = publics n W in
+      let place : 16 * j * n ≡ j * (16 * n) = ap (λ t. t * n) (mul-comm 16 j) ∙ mul-assoc j 16 n in
+      let block : publics n (take 16 (drop (16 * j) W)) ≡ take (16 * n) (drop (j * (16 * n)) P) =
+      sym (ap (λ t. take (16 * n) (drop t P)) (sym place) ∙ publics-part n some 16 (16 * j) W) in
+      let after : j * (16 * n) + 16 * n ≡ (j + 1) * (16 * n) = omega (arith, add-mul j 1 (16 * n)) in
+      let rest : drop (16 * n) (drop (j * (16 * n)) P) ≡ drop ((j + 1) * (16 * n)) P =
+      drop-drop (16 * n) (j * (16 * n)) P ∙ ap (λ t. drop t P) after in
+      rw (← rest) (sym (ap (λ (r : Run). blocks hash n (count - (j + 1)) (drop (16 * n) (drop (j * (16 * n)) P)) (r .0) ws (r .1))
+      (rw block at f)) ∙ (rw m at inv))
 
-  pub blocks-end : count ≤ j → blocks k add n (count - j) (drop (16 * j) W) h ws at ≡ e → e ≡ (h, at)
+  pub blocks-begin : (m p : ℕ) (g : List ℕ) → count ≡ m → Left n ws W count 0 g p ≡ blocks hash n m (publics n W) g ws p
+  blocks-begin m p g f = rw (f, sub-zero m, zero-mul (16 * n))
+
+  pub blocks-end : (j p : ℕ) (g : List ℕ) → count ≤ j → Left n ws W count j g p ≡ e → e ≡ (g, p)
   unfolding blocks
-  blocks-end l q = let m : count - j ≡ 0 = omega arith in sym (rw m at q)
+  blocks-end j p g l inv = let m : count - j ≡ 0 = omega arith in sym (rw m at inv)
 
 -- part j of so many, of d words each
 module _ (j d at p : ℕ) (before : p ≡ at + j * d) where
-  pub parts-room : (count have : ℕ) → j < count → at + count * d ≤ have → p + d ≤ have
-  parts-room count have h l = omega (arith, place-room count d j h)
+  pub parts-room : (count m have : ℕ) → j < count → count ≡ m → at + m * d ≤ have → p + d ≤ have
+  parts-room count m have h e l = omega (arith, place-room m d j (omega arith))
 
   pub parts-next : (r : ℕ) → r ≡ p + d → r ≡ at + (j + 1) * d
   parts-next r e = omega (arith, add-mul j 1 d)
 
-  pub parts-end : (count : ℕ) → count ≤ j → j ≤ count → p ≡ at + count * d
-  parts-end count h l = let q : j ≡ count = omega arith in rw q at before
+  pub parts-end : (count m : ℕ) → count ≤ j → j ≤ count → count ≡ m → p ≡ at + m * d
+  parts-end count m h l e = let q : j ≡ m = omega arith in rw q at before
 
--- ---- how many words HMAC draws, at d words a compression
-pub hmac-count : (l d at p q r e : ℕ) → p ≡ at + d → q ≡ p + ((l + 8) / 64 + 1) * d → r ≡ q + d → e ≡ r + d → e ≡ at + compressions l * d
-hmac-count l d at p q r e a b c f = omega (arith, add-mul ((l + 8) / 64) 1 d, add-mul ((l + 8) / 64) 4 d)
+-- ---- the digest block: the inner digest d, stored in front of zeros or anything, and the padding x after it
+pub digest-made : (n : ℕ) (inner d x z : List ℕ) → length inner ≡ 5 * n → length z ≡ 16 * n → d ≡ inner
+    → x ≡ publics n (0x80000000 ∷ 0 ∷ 0 ∷ 0 ∷ 0 ∷ 0 ∷ 0 ∷ 0 ∷ 0 ∷ 0 ∷ 672 ∷ [])
+    → (let y = d ++ drop (5 * n - 0) z in take (5 * n) y ++ (x ++ drop (16 * n - 5 * n) (drop (5 * n) y)) ≡ inner ++ publics n (digestPadding (SHA1 32)))
+unfolding wordsOf numberOf padding zeros bytesOf
+digest-made n inner d x z l lz e f =
+    let rest = drop (5 * n) z in
+    let none : drop (16 * n - 5 * n) rest ≡ [] = drop-of-length-le rest {i = 16 * n - 5 * n} (rw (length-drop (5 * n) z) (omega arith)) in
+    rw (e, sub-zero (5 * n), take-at inner rest (5 * n) l, drop-at inner rest (5 * n) l, none, append-nil x, f)
 
-pub hmac-room : (l d at have : ℕ) → at + compressions l * d ≤ have → at + ((l + 8) / 64 + 1) * d + 3 * d ≤ have
-hmac-room l d at have h = omega (arith, add-mul ((l + 8) / 64) 1 d, add-mul ((l + 8) / 64) 4 d)
+-- ---- how many words HMAC draws, at d words a compression, and that they are there for each of its four steps
+module _ (l d at : ℕ) where
+  abbrev all : ℕ
+  all = at + compressions (SHA1 32) l * d
 
-pub tag-made : (k : ℕ) (add : Adder) (n : ℕ) (key text ws t : List ℕ) (at p : ℕ) {s : List ℕ} → hmacShares k add n key text ws at ≡ (s, p) → t ≡ allBytes (openWords n 5 s) → hmacTag k add n key text ws at ≡ (t, p)
+  pub hmac-count : (p q r e : ℕ) → p ≡ at + d → q ≡ p + blocksIn l * d → r ≡ q + d → e ≡ r + d → e ≡ all
+  hmac-count p q r e a b c f = omega (arith, add-mul ((l + 8) / 64) 1 d, add-mul ((l + 8) / 64) 4 d)
+
+  pub inner-room : (have : ℕ) → all ≤ have → at + d ≤ have
+  inner-room have h = omega (arith, add-mul ((l + 8) / 64) 4 d)
+
+  pub text-room : (have p : ℕ) → all ≤ have → p ≡ at + d → p + blocksIn l * d ≤ have
+  text-room have p h a = omega (arith, add-mul ((l + 8) / 64) 1 d, add-mul ((l + 8) / 64) 4 d)
+
+  pub outer-room : (have p q : ℕ) → all ≤ have → p ≡ at + d → q ≡ p + blocksIn l * d → q + d ≤ have
+  outer-room have p q h a b = omega (arith, add-mul ((l + 8) / 64) 1 d, add-mul ((l + 8) / 64) 4 d)
+
+  pub digest-room : (have p q r : ℕ) → all ≤ have → p ≡ at + d → q ≡ p + blocksIn l * d → r ≡ q + d → r + d ≤ have
+  digest-room have p q r h a b c = omega (arith, hmac-count p q r (r + d) a b c refl)
+
+pub tag-made : (n : ℕ) (key text ws t : List ℕ) (at p : ℕ) {s : List ℕ} → hmacShares hash n key text ws at ≡ (s, p)
+    → t ≡ allBytes 4 (openWords n 5 s) → hmacTag hash n key text ws at ≡ (t, p)
 unfolding hmacTag
-tag-made k add n key text ws t at p e f = rw (e, f)
+tag-made n key text ws t at p e f = rw (e, f)

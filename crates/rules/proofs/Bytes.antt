@@ -38,7 +38,7 @@ padding-is-bytes H l (suc i) =
     let field = bytesOf (H .lengthBytes) (l * 8) in
     words-join 8 (replicate (zeros H l) 0) field (words-zeros 8 (zeros H l)) (bytes-are-bytes (H .lengthBytes) (l * 8)) i
 
-pow-bytes : (m : ℕ) → 256 ^ m ≡ 2 ^ (8 * m)
+pub pow-bytes : (m : ℕ) → 256 ^ m ≡ 2 ^ (8 * m)
 pow-bytes zero = refl
 pow-bytes (suc m) =
     let more : 8 * suc m ≡ 8 * m + 8 = omega arith in

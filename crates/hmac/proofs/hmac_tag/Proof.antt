@@ -11,5 +11,4 @@ hmac-tag-spec =
     (λ c κs. search needs)
     (λ c κs. search needs)
     (λ c. search needs)
-    (λ c. search tag-made)
-    )
+    (λ c. search tag-made))

@@ -15,5 +15,4 @@ key-step-spec =
     (λ c κs. search needs)
     (λ c κs. search needs)
     (λ c κs. search needs)
-    (λ c. (search key-made, search needs))
-    )
+    (λ c. (search key-made, search needs)))

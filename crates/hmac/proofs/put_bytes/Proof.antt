@@ -1,9 +1,9 @@
 -- a word as four bytes, the highest first
 use borrow.Author.Needs.{needs}
-use native.Mathlib.Omega.{arith}
 use Prim.Native.Nat.{_*_}
+use native.Mathlib.Omega.{arith}
 use lib.ListN.{length-set}
-use Rattle.hmac.proofs.Tags.{bytes-put}
+use Rattle.hmac.proofs.Opened.{bytes-put}
 use Rattle.hmac.proofs.put_bytes.Statement.{statement}
 use Rattle.hmac.proofs.put_bytes.Tie as tie
 
@@ -24,5 +24,4 @@ put-bytes-spec =
     (λ c. search needs)
     (λ c. simp length-set (omega arith))
     (λ c. search needs)
-    (λ c. bytes-put (c .args .tag .now) (c .args .v) (4 * c .args .w) (c .pre))
-    )
+    (λ c. bytes-put (c .args .tag .now) (c .args .v) (4 * c .args .w) (c .pre)))

@@ -1,0 +1,18 @@
+-- the five words of the standard's starting chain, as public values
+use borrow.Author.Needs.{needs}
+use Rattle.hash.proofs.Publics.{start-made}
+use Rattle.hash.proofs.start.Statement.{statement}
+use Rattle.hash.proofs.start.Tie as tie
+
+pub start-spec : {M : Type 1} → statement M
+start-spec =
+    tie.close
+    (tie.spec
+    (λ c. search needs)
+    (λ c. search needs)
+    (λ c. search needs)
+    (λ c. search needs)
+    (λ c. search needs)
+    (λ c κs. search needs)
+    (λ c. start-made (c .before .before .before .before .args .n) _ (c .before .before .before .before .pre .1) (c .before .publish .ensures))
+    )

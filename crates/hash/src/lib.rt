@@ -1,0 +1,90 @@
+// The hash that HMAC is over: its sizes, the chain that it starts from and its compression. The one crate that says which it is.
+ghost use mathlib.Core.Path.{_≡_};
+ghost use Prim.Native.Nat.{_+_, _*_, _≤_, _<_};
+ghost use lib.ListN.{length, set, replicate};
+ghost use Rattle.rules.specs.Numbers.{largest};
+ghost use Rattle.rules.specs.Sha1.{publics, used, chainOf};
+ghost use Rattle.hash.specs.Hash.{hash};
+use rules::Chain;
+use sha1::Stepped;
+use shares::LARGEST;
+
+// Words of a chain, bytes of a word, words of a block.
+pub const WORDS: usize = 5;
+
+pub const WORD_BYTES: usize = 4;
+
+pub const BLOCK_WORDS: usize = 16;
+
+// Bytes of a block, of the padding's length field and of a digest.
+pub const BLOCK_BYTES: usize = BLOCK_WORDS * WORD_BYTES;
+
+pub const LENGTH_BYTES: usize = 8;
+
+pub const DIGEST_BYTES: usize = WORDS * WORD_BYTES;
+
+// Room for a chain and for a block at the largest share count.
+const CHAIN: usize = WORDS * LARGEST;
+
+pub const BLOCK: usize = BLOCK_WORDS * LARGEST;
+
+// z becomes zeros.
+fn clear(z: &mut [u32])
+    ensures { λ _. ⌜ now (z .exit) ≡ replicate (length (now (z .entry))) 0 ⌝ }
+{
+    let mut i = 0;
+    while i < z.len() {
+        z[i] = 0;
+        i += 1;
+    }
+}
+
+// The first share of word w becomes v.
+fn show_at(n: usize, w: usize, v: u32, z: &mut [u32])
+    requires { ⌜ w * n < length (now z) ⌝ }
+    ensures { λ _. ⌜ now (z .exit) ≡ set (now (z .entry)) (w * n) v ⌝ }
+{
+    z[w * n] = v;
+}
+
+// Public words into shares: z becomes (v, 0, …, 0) for each word v.
+pub fn publish(n: usize, values: &[u32], z: &mut [u32])
+    requires { ⌜ (0 < n) × (length (now z) ≡ length (now values) * n) ⌝ }
+    ensures { λ _. ⌜ now (z .exit) ≡ publics n (now (values .entry)) ⌝ }
+{
+    clear(z);
+    let mut w = 0;
+    while w < values.len() {
+        show_at(n, w, values[w], z);
+        w += 1;
+    }
+}
+
+// The chain that starts a hash.
+pub fn start(n: usize) -> Chain
+    requires { ⌜ (0 < n) × (n ≤ largest) ⌝ }
+    ensures { λ r. ⌜ r .shares ≡ chainOf n (publics n (hash .standard .start)) ⌝ }
+{
+    let values = [
+        0x67452301u32,
+        0xefcdab89,
+        0x98badcfe,
+        0x10325476,
+        0xc3d2e1f0,
+    ];
+    let end = WORDS * n;
+    let mut all = [0u32; CHAIN];
+    let front = &mut all[0..end];
+    publish(n, &values, front);
+    Chain { shares: all }
+}
+
+// One compression, of a block of 16n words into a chain, from the word at `at` on.
+pub fn compress(n: usize, chain: Chain, block: &[u32], words: &[u32], at: usize) -> Stepped
+    requires { ⌜ (0 < n) × (n ≤ largest) × (length (now block) ≡ 16 * n) × (at + hash .draws n ≤ length (now words)) ⌝ }
+    ensures { λ r. ⌜ (hash .compress n (used n (chain .shares)) (now (block .entry)) (now (words .entry)) at
+        ≡ (used n (r .chain .shares), r .at))
+        × (r .at ≡ at + hash .draws n) ⌝ }
+{
+    sha1::compress(n, chain, block, words, at)
+}

@@ -1,0 +1,36 @@
+-- the blocks that are left, from here on, give what all of them give from the start
+use borrow.Author.Needs.{needs}
+use Prim.Native.Nat.{_+_, _-_, _*_, _≤_}
+use mathlib.Core.Path.{_≡_}
+use lib.ListN.{length}
+use Rattle.rules.specs.Hash.{ending}
+use Rattle.rules.specs.Sha1.{publics, used}
+use Rattle.rules.specs.Hmac.{blocks}
+use Rattle.hash.specs.Hash.{hash}
+use Rattle.padding.specs.Whole.{blocksIn}
+use Rattle.hmac.proofs.Steps.{Left, blocks-begin, blocks-next, blocks-end, parts-room, parts-next, parts-end}
+use Rattle.hmac.proofs.text_step.Statement.{statement}
+use Rattle.hmac.proofs.text_step.Tie as tie
+
+abbrev Inv-loop : tie.InvT-loop
+Inv-loop n before text words at count c₀ p₀ j₀ c p j =
+    let W = ending (hash .standard) before text in
+    (j ≤ count) × (count ≡ blocksIn (length text)) × (p ≡ at + j * hash .draws n)
+    × (Left n words W count j (used n (c .shares)) p ≡ blocks hash n (blocksIn (length text)) (publics n W) (used n (c₀ .shares)) words at)
+
+abbrev μ-loop : tie.MeasureT-loop
+μ-loop n before text words at count c₀ p₀ j₀ c p j = count - j
+
+pub text-step-spec : {M : Type 1} → statement M
+text-step-spec =
+    tie.close
+    (tie.spec
+    Inv-loop
+    μ-loop
+    (λ c κs. search needs)
+    (λ c. (search needs, search needs, search needs, search blocks-begin))
+    (λ c κs. (search needs, search needs, search needs, search needs, search needs, search parts-room))
+    (λ c. search needs)
+    (λ c. search needs)
+    (λ c. (search needs, search needs, search parts-next, search blocks-next))
+    (λ c. (search blocks-end, search parts-end)))

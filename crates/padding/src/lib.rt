@@ -1,0 +1,80 @@
+// What is hashed after so many bytes that went into the chain already: a text with its padding, byte by byte, word by word and
+// block by block, as public values.
+ghost use mathlib.Core.Path.{_≡_};
+ghost use Prim.Native.Nat.{_+_, _*_, _/_, _%_, _^_, _<_};
+ghost use lib.ListN.{length, getD, take, drop};
+ghost use Rattle.rules.specs.Hash.{ended, ending};
+ghost use Rattle.hash.specs.Hash.{hash};
+ghost use Rattle.padding.specs.Whole.{Hashable, blocksIn};
+use hash::BLOCK_BYTES;
+use hash::BLOCK_WORDS;
+use hash::LENGTH_BYTES;
+use hash::WORD_BYTES;
+
+// How many blocks a text of so many bytes makes with its padding.
+pub fn blocks_in(length: usize) -> usize
+    requires { ⌜ Hashable length ⌝ }
+    ensures { λ r. ⌜ r ≡ blocksIn length ⌝ }
+{
+    (length + LENGTH_BYTES) / BLOCK_BYTES + 1
+}
+
+// Byte j of a count, from its low end.
+fn count_byte(count: usize, j: usize) -> u8
+    requires { ⌜ j < 8 ⌝ }
+    ensures { λ r. ⌜ r ≡ count / 256 ^ j % 256 ⌝ }
+{
+    ((count >> (8 * j)) % 256) as u8
+}
+
+// Byte i of the text with its padding.
+fn byte_at(before: usize, text: &[u8], i: usize) -> u8
+    requires { ⌜ (before % 64 ≡ 0) × Hashable (before + length (now text)) × (i < blocksIn (length (now text)) * 64) ⌝ }
+    ensures { λ r. ⌜ r ≡ getD (ended (hash .standard) before (now (text .entry))) i 0 ⌝ }
+{
+    let l = text.len();
+    if i < l {
+        return text[i];
+    }
+    if i == l {
+        return 0x80;
+    }
+    let end = blocks_in(l) * BLOCK_BYTES;
+    if i + LENGTH_BYTES < end {
+        return 0;
+    }
+    count_byte((before + l) * 8, end - 1 - i)
+}
+
+// Four bytes as a word, the first highest.
+pub fn joined(a: u8, b: u8, c: u8, d: u8) -> u32
+    ensures { λ r. ⌜ r ≡ ((a * 256 + b) * 256 + c) * 256 + d ⌝ }
+{
+    ((a as u32 * 256 + b as u32) * 256 + c as u32) * 256 + d as u32
+}
+
+// Word i of the text with its padding.
+fn word_at(before: usize, text: &[u8], i: usize) -> u32
+    requires { ⌜ (before % 64 ≡ 0) × Hashable (before + length (now text)) × (i < blocksIn (length (now text)) * 16) ⌝ }
+    ensures { λ r. ⌜ r ≡ getD (ending (hash .standard) before (now (text .entry))) i 0 ⌝ }
+{
+    let p = WORD_BYTES * i;
+    joined(
+        byte_at(before, text, p),
+        byte_at(before, text, p + 1),
+        byte_at(before, text, p + 2),
+        byte_at(before, text, p + 3),
+    )
+}
+
+// Block j of the text with its padding, as 16 words.
+pub fn block_words(before: usize, text: &[u8], j: usize, z: &mut [u32])
+    requires { ⌜ (before % 64 ≡ 0) × Hashable (before + length (now text)) × (j < blocksIn (length (now text))) × (length (now z) ≡ 16) ⌝ }
+    ensures { λ _. ⌜ now (z .exit) ≡ take 16 (drop (16 * j) (ending (hash .standard) before (now (text .entry)))) ⌝ }
+{
+    let mut w = 0;
+    while w < z.len() {
+        z[w] = word_at(before, text, BLOCK_WORDS * j + w);
+        w += 1;
+    }
+}
