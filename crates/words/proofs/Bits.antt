@@ -1,5 +1,5 @@
--- Any equation in ⊕ and ∧ that holds of single bits holds of all numbers: one law, by computation over the table of bits.
--- With it stand the laws of a number's lowest digit, for inductions that halve a word.
+-- Any equation in ⊕ and ∧ that holds of single bits holds of all numbers: one law, by computation over the table of
+-- bits. With it stand the laws of a number's lowest digit, for inductions that halve a word.
 use mathlib.Core.Path.{_≡_, refl, sym, ap₂, _∙_}
 use mathlib.Core.Bool.{Bool, true, false}
 use mathlib.Core.List.{List, [], _∷_, map}

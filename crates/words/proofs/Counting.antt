@@ -225,20 +225,22 @@ module _ (k : ℕ) where
 pub record Entries (k : ℕ) (steps : ℕ → ℕ → ℕ → List ℕ) : Type 0 where
   pub at : (i : ℕ) → Free k (λ x r g. getD (steps x r g) i 0)
 
-module _ (k : ℕ) where
-  pub no-entry : Entries k (λ x r g. [])
-  no-entry = record { at = λ i. plain k (λ r g. 0) }
+pub no-entry : (k : ℕ) → Entries k (λ x r g. [])
+no-entry k = record { at = λ i. plain k (λ r g. 0) }
 
-  pub entry : {a : Probe} {f : ℕ → ℕ → ℕ → List ℕ} → Free k a → Entries k f → Entries k (λ x r g. a x r g ∷ f x r g)
-  entry {a} {f} p q = record { at = go }
-    where
-      go : (i : ℕ) → Free k (λ x r g. getD (a x r g ∷ f x r g) i 0)
-      go zero = p
-      go (suc i) = q .at i
+-- an entry, and those after it
+pub _▹_ : {k : ℕ} {a : Probe} {f : ℕ → ℕ → ℕ → List ℕ} → Free k a → Entries k f
+    → Entries k (λ x r g. a x r g ∷ f x r g)
+_▹_ {k} {a} {f} p q = record { at = go }
+  where
+    go : (i : ℕ) → Free k (λ x r g. getD (a x r g ∷ f x r g) i 0)
+    go zero = p
+    go (suc i) = q .at i
 
-  pub entries-like : (f h : ℕ → ℕ → ℕ → List ℕ) → Same k f h → Entries k h → Entries k f
-  entries-like f h e a =
-      record { at = λ i. like k _ _ (λ x r g hx hr hg. ap (λ l. getD l i 0) (e x r g hx hr hg)) (a .at i) }
+infixr 40 _▹_
+pub entries-like : (k : ℕ) (f h : ℕ → ℕ → ℕ → List ℕ) → Same k f h → Entries k h → Entries k f
+entries-like k f h e a =
+    record { at = λ i. like k _ _ (λ x r g hx hr hg. ap (λ l. getD l i 0) (e x r g hx hr hg)) (a .at i) }
 
 -- ---- a value that some pair shows has a count, and one that no pair shows has none
 sum-least : (n i : ℕ) (f : ℕ → ℕ) → i < n → f i ≤ sum n f
