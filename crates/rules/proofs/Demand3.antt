@@ -1,4 +1,4 @@
--- Demand 3: each step of each record, taken alone, is independent of the secret. Beside it, that the statement can fail.
+-- Demand 3: each step of each record, taken alone, is independent of the secret; and that the statement can fail.
 use mathlib.Core.Path.{_≡_, refl, sym, ap, ap₂, _∙_}
 use mathlib.Core.List.{List, [], _∷_}
 use Prim.Native.Nat.{ℕ, zero, suc, _+_, _-_, _*_, _^_, _<_}
@@ -180,7 +180,8 @@ module _ (k : ℕ) where
       like k _ (λ x r g. bitAnd (bitXor (bitXor g (bitAnd (double k g) (2 ^ k - 1))) (A x r)) r) (λ x r g hx hr hg.
       bits (g ∷ double k g ∷ A x r ∷ r ∷ []) ((v 0 ⊕ (v 1 ⊕ v 2)) ⊗ v 3) ((v 0 ⊕ v 1 ⊕ v 2) ⊗ v 3) tt
       ∙ ap (λ t. bitAnd (bitXor (bitXor g t) (A x r)) r) (sym (uncut g)))
-      (by-turn k (λ x r. 2 ^ k - 1) A (λ x r hx hr. ones-lt k) A-low (λ x r g. bitAnd g r) (plain k (λ r g. bitAnd g r)))
+      (by-turn k (λ x r. 2 ^ k - 1) A (λ x r hx hr. ones-lt k) A-low
+      (λ x r g. bitAnd g r) (plain k (λ r g. bitAnd g r)))
     where
       uncut : (g : ℕ) → bitAnd (double k g) (2 ^ k - 1) ≡ double k g
       uncut g = and-mask (double k g) k ∙ mod-eq-of-lt (shift-lt k 1 g)
@@ -214,7 +215,8 @@ module _ (k : ℕ) where
       entries-like k _ (rounds (k - 1) (λ x r. 0)) (λ x r g hx hr hg.
       ap (a2bRounds k (A x r) r (O x r g) (bitXor (double k g) (A x r)) (k - 1))
       (sym (ap (bitXor (double k g)) (shift-zero k 1) ∙ xor-zero-r (double k g))))
-      (rounds-free (k - 1) (λ x r. 0) (λ x r hx hr. pow-pos k) (λ x r hx hr. rw (shift-zero k 1) (carries-end x r hx hr)))
+      (rounds-free (k - 1) (λ x r. 0) (λ x r hx hr. pow-pos k)
+      (λ x r hx hr. rw (shift-zero k 1) (carries-end x r hx hr)))
 
   a2b-free : Entries k (λ x r g. a2bRecord k (A x r) r g)
   unfolding a2bRecord a2bStart
