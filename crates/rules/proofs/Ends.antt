@@ -30,7 +30,8 @@ masked g t a r = bitXor (bitXor (bitAnd g (bitXor g r)) (bitAnd (bitXor g (bitXo
 
 -- one turn takes the masked word through one round of the carry loop
 pub turn : (g t a r u : ℕ)
-    → bitXor (bitXor (bitAnd (bitXor t u) r) (masked g t a r)) (bitAnd (bitXor t u) a) ≡ bitXor g (out (bitXor a r) (bitAnd a r) u)
+    → bitXor (bitXor (bitAnd (bitXor t u) r) (masked g t a r)) (bitAnd (bitXor t u) a)
+    ≡ bitXor g (out (bitXor a r) (bitAnd a r) u)
 turn g t a r u =
     bits (g ∷ t ∷ a ∷ r ∷ u ∷ [])
     ((v 1 ⊕ v 4) ⊗ v 3 ⊕ (v 0 ⊗ (v 0 ⊕ v 3) ⊕ (v 0 ⊕ (v 1 ⊕ v 2)) ⊗ v 3 ⊕ v 1 ⊗ v 2) ⊕ (v 1 ⊕ v 4) ⊗ v 2)
@@ -42,7 +43,8 @@ rounds-length k a r o x zero t = refl
 rounds-length k a r o x (suc n) t = omega (arith, rounds-length k a r o x n (getD (a2bRound k a r o t) 4 0))
 
 pub rounds-end : (k a r g x n u : ℕ)
-    → getD (a2bRounds k a r (masked g (double k g) a r) x n (bitXor (double k g) u)) (5 * n) 0 ≡ bitXor x (bitXor (double k g) (carry k (bitXor a r) (bitAnd a r) n u))
+    → getD (a2bRounds k a r (masked g (double k g) a r) x n (bitXor (double k g) u)) (5 * n) 0
+    ≡ bitXor x (bitXor (double k g) (carry k (bitXor a r) (bitAnd a r) n u))
 unfolding a2bRounds a2bRound carry
 rounds-end k a r g x zero u = refl
 rounds-end k a r g x (suc n) u =
@@ -52,9 +54,12 @@ rounds-end k a r g x (suc n) u =
 
 pub a2b-length : (k a r g : ℕ) → 0 < k → length (a2bRecord k a r g) ≡ 5 * k + 5
 unfolding a2bRecord a2bStart
-a2b-length k a r g h = omega (arith, rounds-length k a r (masked g (double k g) a r) (bitXor (double k g) a) (k - 1) (double k g))
+a2b-length k a r g h =
+    let t = double k g in
+    omega (arith, rounds-length k a r (masked g t a r) (bitXor t a) (k - 1) t)
 
-pub a2b-ends : (k a r g : ℕ) → 0 < k → a < 2 ^ k → r < 2 ^ k → getD (a2bRecord k a r g) (5 * k + 4) 0 ≡ bitXor (plus k a r) r
+pub a2b-ends : (k a r g : ℕ) → 0 < k → a < 2 ^ k → r < 2 ^ k
+    → getD (a2bRecord k a r g) (5 * k + 4) 0 ≡ bitXor (plus k a r) r
 unfolding a2bRecord a2bStart
 a2b-ends k a r g h ha hr =
     let t = double k g in
@@ -67,13 +72,16 @@ a2b-ends k a r g h ha hr =
     ∙ ap (λ n. bitXor n r) (carry-sum k a r ha hr))
 
 -- ---- for the code's loops: one turn leaves the last entry where it was, and the whole record what it was
-pub rounds-again : (k a r o x n m t z : ℕ) → n ≡ suc m → getD (a2bRounds k a r o x n t) (5 * n) 0 ≡ z → getD (a2bRounds k a r o x m (getD (a2bRound k a r o t) 4 0)) (5 * m) 0 ≡ z
+pub rounds-again : (k a r o x n m t z : ℕ) → n ≡ suc m
+    → getD (a2bRounds k a r o x n t) (5 * n) 0 ≡ z
+    → getD (a2bRounds k a r o x m (getD (a2bRound k a r o t) 4 0)) (5 * m) 0 ≡ z
 unfolding a2bRounds a2bRound
 rounds-again k a r o x n m t z e h =
     let more : 5 * suc m ≡ suc (suc (suc (suc (suc (5 * m))))) = omega arith in
     rw (e, more) at h
 
-pub rounds-front : (k a r o x n m t : ℕ) (front record′ : List ℕ) → n ≡ suc m → front ++ a2bRounds k a r o x n t ≡ record′
-    → (front ++ a2bRound k a r o t) ++ a2bRounds k a r o x m (getD (a2bRound k a r o t) 4 0) ≡ record′
+pub rounds-front : (k a r o x n m t : ℕ) (front whole : List ℕ) → n ≡ suc m
+    → front ++ a2bRounds k a r o x n t ≡ whole
+    → (front ++ a2bRound k a r o t) ++ a2bRounds k a r o x m (getD (a2bRound k a r o t) 4 0) ≡ whole
 unfolding a2bRounds
-rounds-front k a r o x n m t front record′ e h = rw (append-assoc front (a2bRound k a r o t)) (rw e at h)
+rounds-front k a r o x n m t front whole e h = rw (append-assoc front (a2bRound k a r o t)) (rw e at h)

@@ -1,8 +1,10 @@
--- The functions and the rotation of SHA-1: what the masked rules make of shares, and that it is what the standard makes of words.
+-- The functions and the rotation of SHA-1: what the masked rules make of shares, and that it is what the standard
+-- makes of words.
 use Prim.Native.Nat.{ℕ, zero, suc, _+_, _-_, _*_, _/_, _%_, _^_, _≤_, _<_}
 use mathlib.Core.Path.{_≡_, refl, sym, ap, ap₂, _∙_}
 use mathlib.Core.List.{List, [], _∷_}
-use native.Mathlib.Nat.{mod-lt, mod-eq-of-lt, div-le-self, lt-of-le-of-lt, div-add-mod', div-lt-iff-lt-mul, zero-div, zero-mul, add-comm, add-mul, mul-assoc, mul-add-mod-self-right, mul-lt-mul-of-pos-right}
+use native.Mathlib.Nat.{mod-lt, mod-eq-of-lt, div-le-self, lt-of-le-of-lt, div-add-mod', div-lt-iff-lt-mul, zero-div}
+use native.Mathlib.Nat.{zero-mul, add-comm, add-mul, mul-assoc, mul-add-mod-self-right, mul-lt-mul-of-pos-right}
 use native.Mathlib.Omega.{arith}
 use lib.Bits.{bitAnd, bitXor, xor-shr, or-lt, xor-lt, and-lt, and-mask, or-shifted, xor-shifted}
 use lib.ListN.{length}
@@ -16,7 +18,7 @@ use Rattle.rules.specs.Counts.{andDraws, quarterAnds}
 use Rattle.rules.specs.Standard.{ROTL, complement, Ch, Parity, Maj, f}
 use Rattle.rules.specs.Sha1.{rotl, rotated, blended, chosen}
 use Rattle.rules.proofs.Rule.{give, bind, counted}
-use Rattle.rules.proofs.Openings.{length-each, xor-opens}
+use Rattle.rules.proofs.Openings.{xor-middle, length-each, xor-opens}
 use Rattle.rules.proofs.Pairs.{and-rule}
 
 -- ---- the function of a quarter, with one AND at most
@@ -32,52 +34,69 @@ unfolding plain f Ch Parity Maj complement
 plain-is k zero b c d h =
     let m = 2 ^ k - 1 in
     let e : bitAnd d m ≡ d = and-mask d k ∙ mod-eq-of-lt h in
-    ap (λ t. bitXor t (bitAnd b (bitXor c d))) (sym e) ∙ bits (b ∷ c ∷ d ∷ m ∷ []) (v 2 ⊗ v 3 ⊕ v 0 ⊗ (v 1 ⊕ v 2)) (v 0 ⊗ v 1 ⊕ (v 0 ⊕ v 3) ⊗ v 2) tt
+    ap (λ t. bitXor t (bitAnd b (bitXor c d))) (sym e)
+    ∙ bits (b ∷ c ∷ d ∷ m ∷ []) (v 2 ⊗ v 3 ⊕ v 0 ⊗ (v 1 ⊕ v 2)) (v 0 ⊗ v 1 ⊕ (v 0 ⊕ v 3) ⊗ v 2) tt
 plain-is k (suc zero) b c d h = refl
-plain-is k (suc (suc zero)) b c d h = bits (b ∷ c ∷ d ∷ []) (v 2 ⊕ (v 0 ⊕ v 2) ⊗ (v 1 ⊕ v 2)) (v 0 ⊗ v 1 ⊕ v 0 ⊗ v 2 ⊕ v 1 ⊗ v 2) tt
+plain-is k (suc (suc zero)) b c d h =
+    bits (b ∷ c ∷ d ∷ []) (v 2 ⊕ (v 0 ⊕ v 2) ⊗ (v 1 ⊕ v 2)) (v 0 ⊗ v 1 ⊕ v 0 ⊗ v 2 ⊕ v 1 ⊗ v 2) tt
 plain-is k (suc (suc (suc q))) b c d h = refl
 
 pub plain-lt : (k q b c d : ℕ) → b < 2 ^ k → c < 2 ^ k → d < 2 ^ k → plain q b c d < 2 ^ k
 unfolding plain
 plain-lt k zero b c d hb hc hd = xor-lt k d _ hd (and-lt k b _ hb (xor-lt k c d hc hd))
 plain-lt k (suc zero) b c d hb hc hd = xor-lt k _ d (xor-lt k b c hb hc) hd
-plain-lt k (suc (suc zero)) b c d hb hc hd = xor-lt k d _ hd (and-lt k _ _ (xor-lt k b d hb hd) (xor-lt k c d hc hd))
+plain-lt k (suc (suc zero)) b c d hb hc hd =
+    xor-lt k d _ hd (and-lt k _ _ (xor-lt k b d hb hd) (xor-lt k c d hc hd))
 plain-lt k (suc (suc (suc q))) b c d hb hc hd = xor-lt k _ d (xor-lt k b c hb hc) hd
 
 -- shares of two words, XORed
-pub xors : (n : ℕ) (x y : List ℕ) → length x ≡ n → length y ≡ n → Shares n (bitXor (opened x) (opened y)) (each bitXor x y)
-xors n x y hx hy = let l : length y ≡ length x = hy ∙ sym hx in (length-each bitXor x y l ∙ hx, xor-opens x y l)
+pub xors : (n : ℕ) (x y : List ℕ) → length x ≡ n → length y ≡ n
+    → Shares n (bitXor (opened x) (opened y)) (each bitXor x y)
+xors n x y hx hy =
+    let l : length y ≡ length x = hy ∙ sym hx in
+    (length-each bitXor x y l ∙ hx, xor-opens x y l)
 
 module _ (n : ℕ) (b c d : List ℕ) (hb : length b ≡ n) (hc : length c ≡ n) (hd : length d ≡ n) where
-  -- d ⊕ (x ∧ (c ⊕ d))
-  and-then : (x : List ℕ) (X : ℕ) → Shares n X x
-      → Rule (1 * andDraws n) (Shares n (bitXor (opened d) (bitAnd X (bitXor (opened c) (opened d))))) (λ ws at. let t = and x (each bitXor c d) ws at in (each bitXor d (t .0), t .1))
-  and-then x X h =
+  -- d ⊕ (u ∧ (c ⊕ d)), where u opens to s
+  blended-rule : (u : List ℕ) (s : ℕ) → Shares n s u
+      → Rule (1 * andDraws n)
+      (Shares n (bitXor (opened d) (bitAnd s (bitXor (opened c) (opened d)))))
+      (blended u (each bitXor c d) d)
+  unfolding blended
+  blended-rule u s h =
       let cd = xors n c d hc hd in
       counted
-      (bind (and-rule n x (each bitXor c d) (h .0) (cd .0)) (λ z p. give (Shares n (bitXor (opened d) (bitAnd X (bitXor (opened c) (opened d))))) (each bitXor d z)
-      (let g = xors n d z hd (p .0) in (g .0, g .1 ∙ ap (bitXor (opened d)) (p .1 ∙ ap₂ bitAnd (h .1) (cd .1))))))
+      (bind (and-rule n u (each bitXor c d) (h .0) (cd .0)) (λ z p.
+      let g = xors n d z hd (p .0) in
+      give (Shares n _) (each bitXor d z)
+      (g .0, g .1 ∙ ap (bitXor (opened d)) (p .1 ∙ ap₂ bitAnd (h .1) (cd .1)))))
       (omega arith)
 
-  parity : Rule (0 * andDraws n) (Shares n (bitXor (bitXor (opened b) (opened c)) (opened d))) (λ ws at. (each bitXor (each bitXor b c) d, at))
-  parity =
+  parity-rule : Rule (0 * andDraws n)
+      (Shares n (bitXor (bitXor (opened b) (opened c)) (opened d)))
+      (λ ws at. (each bitXor (each bitXor b c) d, at))
+  parity-rule =
       let bc = xors n b c hb hc in
       let g = xors n (each bitXor b c) d (bc .0) hd in
-      counted (give (Shares n (bitXor (bitXor (opened b) (opened c)) (opened d))) (each bitXor (each bitXor b c) d) (g .0, g .1 ∙ ap (λ t. bitXor t (opened d)) (bc .1))) (sym (zero-mul (andDraws n)))
+      counted
+      (give (Shares n _) (each bitXor (each bitXor b c) d)
+      (g .0, g .1 ∙ ap (λ t. bitXor t (opened d)) (bc .1)))
+      (sym (zero-mul (andDraws n)))
 
-  pub chosen-rule : (q : ℕ) → Rule (quarterAnds q * andDraws n) (Shares n (plain q (opened b) (opened c) (opened d))) (chosen q b c d)
-  unfolding chosen blended plain quarterAnds
-  chosen-rule zero = and-then b (opened b) (hb, refl)
-  chosen-rule (suc zero) = parity
-  chosen-rule (suc (suc zero)) = and-then (each bitXor b d) (bitXor (opened b) (opened d)) (xors n b d hb hd)
-  chosen-rule (suc (suc (suc q))) = parity
+  pub chosen-rule : (q : ℕ)
+      → Rule (quarterAnds q * andDraws n) (Shares n (plain q (opened b) (opened c) (opened d))) (chosen q b c d)
+  unfolding chosen plain quarterAnds
+  chosen-rule zero = blended-rule b (opened b) (hb, refl)
+  chosen-rule (suc zero) = parity-rule
+  chosen-rule (suc (suc zero)) = blended-rule (each bitXor b d) (bitXor (opened b) (opened d)) (xors n b d hb hd)
+  chosen-rule (suc (suc (suc q))) = parity-rule
 
 -- ---- the rotation goes share by share
 rotl-xor : (k r x y : ℕ) → rotl k r (bitXor x y) ≡ bitXor (rotl k r x) (rotl k r y)
 unfolding rotl
 rotl-xor k r x y =
     ap₂ bitXor (shift-xor k r x y) (xor-shr x y (k - r))
-    ∙ bits (shift k r x ∷ shift k r y ∷ x / 2 ^ (k - r) ∷ y / 2 ^ (k - r) ∷ []) (v 0 ⊕ v 1 ⊕ (v 2 ⊕ v 3)) (v 0 ⊕ v 2 ⊕ (v 1 ⊕ v 3)) tt
+    ∙ xor-middle (shift k r x) (shift k r y) (x / 2 ^ (k - r)) (y / 2 ^ (k - r))
 
 pub rotated-opens : (k r : ℕ) (x : List ℕ) → opened (rotated k r x) ≡ rotl k r (opened x)
 unfolding opened rotl
@@ -107,4 +126,6 @@ rotl-is k r x h l =
 
 pub ROTL-lt : (k r x : ℕ) → x < 2 ^ k → ROTL k r x < 2 ^ k
 unfolding ROTL
-ROTL-lt k r x h = or-lt k (shift k r x) (x / 2 ^ (k - r)) (shift-lt k r x) (lt-of-le-of-lt (div-le-self x (2 ^ (k - r))) h)
+ROTL-lt k r x h =
+    let low = lt-of-le-of-lt (div-le-self x (2 ^ (k - r))) h in
+    or-lt k (shift k r x) (x / 2 ^ (k - r)) (shift-lt k r x) low

@@ -39,10 +39,13 @@ pub opened-set : (z : List ℕ) (i s : ℕ) → i < length z → opened (set z i
 unfolding opened
 opened-set [] i s h = absurd (omega arith)
 opened-set (a ∷ z) zero s h = bits (a ∷ s ∷ opened z ∷ []) (v 0 ⊕ v 1 ⊕ v 2) (v 1 ⊕ (v 0 ⊕ v 2)) tt
-opened-set (a ∷ z) (suc i) s h = ap (bitXor a) (opened-set z i s (omega arith)) ∙ bits (a ∷ s ∷ opened z ∷ []) (v 0 ⊕ (v 1 ⊕ v 2)) (v 1 ⊕ (v 0 ⊕ v 2)) tt
+opened-set (a ∷ z) (suc i) s h =
+    ap (bitXor a) (opened-set z i s (omega arith))
+    ∙ bits (a ∷ s ∷ opened z ∷ []) (v 0 ⊕ (v 1 ⊕ v 2)) (v 1 ⊕ (v 0 ⊕ v 2)) tt
 
 -- the shares from place i on
-pub opened-drop : (z : List ℕ) (i : ℕ) → i < length z → opened (drop i z) ≡ bitXor (getD z i 0) (opened (drop (i + 1) z))
+pub opened-drop : (z : List ℕ) (i : ℕ) → i < length z
+    → opened (drop i z) ≡ bitXor (getD z i 0) (opened (drop (i + 1) z))
 unfolding opened
 opened-drop z i h = rw (add-one i, drop-cons z i 0 h)
 
@@ -66,7 +69,8 @@ module _ (f : ℕ → ℕ → ℕ) where
   length-each (a ∷ x) [] h = absurd (omega arith)
   length-each (a ∷ x) (b ∷ y) h = ap suc (length-each x y (omega arith))
 
-  pub each-at : (x y : List ℕ) → length y ≡ length x → (i : ℕ) → i < length x → getD (each f x y) i 0 ≡ f (getD x i 0) (getD y i 0)
+  pub each-at : (x y : List ℕ) → length y ≡ length x → (i : ℕ) → i < length x
+      → getD (each f x y) i 0 ≡ f (getD x i 0) (getD y i 0)
   unfolding each
   each-at [] y h i l = absurd (omega arith)
   each-at (a ∷ x) [] h i l = absurd (omega arith)
@@ -74,19 +78,26 @@ module _ (f : ℕ → ℕ → ℕ) where
   each-at (a ∷ x) (b ∷ y) h (suc i) l = each-at x y (omega arith) i (omega arith)
 
   -- what respects XOR is done to the opened values
-  pub each-opens : f 0 0 ≡ 0 → ((a b c d : ℕ) → f (bitXor a b) (bitXor c d) ≡ bitXor (f a c) (f b d)) → (x y : List ℕ) → length y ≡ length x
+  pub each-opens : f 0 0 ≡ 0
+      → ((a b c d : ℕ) → f (bitXor a b) (bitXor c d) ≡ bitXor (f a c) (f b d))
+      → (x y : List ℕ) → length y ≡ length x
       → opened (each f x y) ≡ f (opened x) (opened y)
   unfolding each opened
   each-opens none respects [] [] h = sym none
   each-opens none respects [] (b ∷ y) h = absurd (omega arith)
   each-opens none respects (a ∷ x) [] h = absurd (omega arith)
-  each-opens none respects (a ∷ x) (b ∷ y) h = ap (bitXor (f a b)) (each-opens none respects x y (omega arith)) ∙ sym (respects a (opened x) b (opened y))
+  each-opens none respects (a ∷ x) (b ∷ y) h =
+      ap (bitXor (f a b)) (each-opens none respects x y (omega arith))
+      ∙ sym (respects a (opened x) b (opened y))
 
-xor-middle : (a b c d : ℕ) → bitXor (bitXor a b) (bitXor c d) ≡ bitXor (bitXor a c) (bitXor b d)
+pub xor-middle : (a b c d : ℕ) → bitXor (bitXor a b) (bitXor c d) ≡ bitXor (bitXor a c) (bitXor b d)
 xor-middle a b c d = bits (a ∷ b ∷ c ∷ d ∷ []) (v 0 ⊕ v 1 ⊕ (v 2 ⊕ v 3)) (v 0 ⊕ v 2 ⊕ (v 1 ⊕ v 3)) tt
 
 pub xor-opens : (x y : List ℕ) → length y ≡ length x → opened (each bitXor x y) ≡ bitXor (opened x) (opened y)
 xor-opens = each-opens bitXor refl xor-middle
 
-pub doubleXor-opens : (k : ℕ) (x y : List ℕ) → length y ≡ length x → opened (each (doubleXor k) x y) ≡ doubleXor k (opened x) (opened y)
-doubleXor-opens k = each-opens (doubleXor k) (shift-zero k 1) (λ a b c d. ap (double k) (xor-middle a b c d) ∙ shift-xor k 1 (bitXor a c) (bitXor b d))
+pub doubleXor-opens : (k : ℕ) (x y : List ℕ) → length y ≡ length x
+    → opened (each (doubleXor k) x y) ≡ doubleXor k (opened x) (opened y)
+doubleXor-opens k =
+    each-opens (doubleXor k) (shift-zero k 1)
+    (λ a b c d. ap (double k) (xor-middle a b c d) ∙ shift-xor k 1 (bitXor a c) (bitXor b d))

@@ -7,7 +7,7 @@ use lib.Bits.{bitXor, bitAnd, and-zero-r}
 use lib.ListN.{length, getD, set, drop, length-set, length-append}
 use Rattle.words.proofs.Bits.{bits, v, _⊕_, _⊗_}
 use Rattle.words.proofs.Words.{xor-assoc, xor-back}
-use Rattle.rules.specs.Supply.{Rule, Shares, opened}
+use Rattle.rules.specs.Supply.{Place, Sharing, Rule, Shares, opened}
 use Rattle.rules.specs.Shares.{each, along, order, column, mix, refreshLast, refresh, cross, and}
 use Rattle.rules.specs.Counts.{andDraws, refreshDraws}
 use Rattle.rules.proofs.Rule.{pass-rule, said}
@@ -22,7 +22,9 @@ length-along (suc m) i j = ap suc (length-along m i (j + 1))
 length-order : (m i : ℕ) → length (order m i) ≡ andDraws m
 unfolding order andDraws
 length-order zero i = refl
-length-order (suc m) i = length-append (along m i (i + 1)) (order m (i + 1)) ∙ ap₂ (λ (a b : ℕ). a + b) (length-along m i (i + 1)) (length-order m (i + 1))
+length-order (suc m) i =
+    length-append (along m i (i + 1)) (order m (i + 1))
+    ∙ ap₂ (λ (a b : ℕ). a + b) (length-along m i (i + 1)) (length-order m (i + 1))
 
 length-column : (last m i : ℕ) → length (column last m i) ≡ m
 unfolding column
@@ -30,11 +32,11 @@ length-column last zero i = refl
 length-column last (suc m) i = ap suc (length-column last m (i + 1))
 
 -- every pair is of places below n
-abbrev Within : ℕ → List (ℕ × ℕ) → Type 0
+abbrev Within : ℕ → List (Place × Place) → Type 0
 Within n [] = Unit {0}
 Within n (p ∷ ps) = (p .0 < n) × (p .1 < n) × Within n ps
 
-within-append : (n : ℕ) (ps qs : List (ℕ × ℕ)) → Within n ps → Within n qs → Within n (ps ++ qs)
+within-append : (n : ℕ) (ps qs : List (Place × Place)) → Within n ps → Within n qs → Within n (ps ++ qs)
 within-append n [] qs h l = l
 within-append n (p ∷ ps) qs h l = (h .0, h .1, within-append n ps qs (h .2) l)
 
@@ -47,7 +49,9 @@ within-order : (n m i : ℕ) → i + m ≤ n → Within n (order m i)
 unfolding order
 within-order n zero i h = tt
 within-order n (suc m) i h =
-    within-append n (along m i (i + 1)) (order m (i + 1)) (within-along n m i (i + 1) (omega arith) (omega arith)) (within-order n m (i + 1) (omega arith))
+    within-append n (along m i (i + 1)) (order m (i + 1))
+    (within-along n m i (i + 1) (omega arith) (omega arith))
+    (within-order n m (i + 1) (omega arith))
 
 within-column : (n last m i : ℕ) → last < n → i + m ≤ n → Within n (column last m i)
 unfolding column
@@ -57,7 +61,7 @@ within-column n last (suc m) i h l = (omega arith, h, within-column n last m (i 
 -- ---- two entries changed, by s and by t
 two-set : (z : List ℕ) (i j s t : ℕ) → i < length z → j < length z
     → (let y = set z i (bitXor (getD z i 0) s) in
-    (length (set y j (bitXor (getD y j 0) t)) ≡ length z) × (opened (set y j (bitXor (getD y j 0) t)) ≡ bitXor t (bitXor s (opened z))))
+    Shares (length z) (bitXor t (bitXor s (opened z))) (set y j (bitXor (getD y j 0) t)))
 two-set z i j s t h l =
     let y = set z i (bitXor (getD z i 0) s) in (
       length-set y j (bitXor (getD y j 0) t) ∙ length-set z i (bitXor (getD z i 0) s),
@@ -67,7 +71,11 @@ two-set z i j s t h l =
 -- ---- refresh
 pub refreshLast-rule : (n : ℕ) (x : List ℕ) → length x ≡ n → Rule (refreshDraws n) (Shares n (opened x)) (refreshLast x)
 unfolding refreshLast
-refreshLast-rule zero [] h = said (pass-rule mix (λ ps z. z ≡ []) (λ p ps s z e. rw e) (column 0 0 0) [] refl) (length-column 0 0 0) (λ z e. (ap length e, ap opened e))
+refreshLast-rule zero [] h =
+    said
+    (pass-rule mix (λ ps z. z ≡ []) (λ p ps s z e. rw e) (column 0 0 0) [] refl)
+    (length-column 0 0 0)
+    (λ z e. (ap length e, ap opened e))
 refreshLast-rule zero (a ∷ x) h = absurd (omega arith)
 refreshLast-rule (suc m) x h =
     let last = length x - 1 in
@@ -86,22 +94,26 @@ refresh-rule = refreshLast-rule
 
 -- ---- AND
 -- the cross terms of the pairs
-abbrev term : List ℕ → List ℕ → ℕ × ℕ → ℕ
+abbrev term : Sharing → Sharing → Place × Place → ℕ
 term x y p = bitXor (bitAnd (getD x (p .0) 0) (getD y (p .1) 0)) (bitAnd (getD x (p .1) 0) (getD y (p .0) 0))
 
-crossed : List ℕ → List ℕ → List (ℕ × ℕ) → ℕ
+crossed : Sharing → Sharing → List (Place × Place) → ℕ
 crossed x y [] = 0
 crossed x y (p ∷ ps) = bitXor (term x y p) (crossed x y ps)
 
-crossed-append : (x y : List ℕ) (ps qs : List (ℕ × ℕ)) → crossed x y (ps ++ qs) ≡ bitXor (crossed x y ps) (crossed x y qs)
+crossed-append : (x y : List ℕ) (ps qs : List (Place × Place))
+    → crossed x y (ps ++ qs) ≡ bitXor (crossed x y ps) (crossed x y qs)
 unfolding crossed
 crossed-append x y [] qs = refl
-crossed-append x y (p ∷ ps) qs = ap (bitXor (term x y p)) (crossed-append x y ps qs) ∙ sym (xor-assoc (term x y p) (crossed x y ps) (crossed x y qs))
+crossed-append x y (p ∷ ps) qs =
+    ap (bitXor (term x y p)) (crossed-append x y ps qs)
+    ∙ sym (xor-assoc (term x y p) (crossed x y ps) (crossed x y qs))
 
 module _ (x y : List ℕ) (same : length y ≡ length x) where
   -- of one share with all from place j on
   crossed-along : (m i j : ℕ) → j + m ≡ length x
-      → crossed x y (along m i j) ≡ bitXor (bitAnd (getD x i 0) (opened (drop j y))) (bitAnd (opened (drop j x)) (getD y i 0))
+      → crossed x y (along m i j)
+      ≡ bitXor (bitAnd (getD x i 0) (opened (drop j y))) (bitAnd (opened (drop j x)) (getD y i 0))
   unfolding along crossed
   crossed-along zero i j e = rw (opened-past y j (omega arith), opened-past x j (omega arith), and-zero-r (getD x i 0))
   crossed-along (suc m) i j e =
@@ -113,9 +125,12 @@ module _ (x y : List ℕ) (same : length y ≡ length x) where
 
   -- of all from place i on, with the diagonal: the product of what they open to
   crossed-order : (m i : ℕ) → i + m ≡ length x
-      → bitXor (crossed x y (order m i)) (opened (drop i (each bitAnd x y))) ≡ bitAnd (opened (drop i x)) (opened (drop i y))
+      → bitXor (crossed x y (order m i)) (opened (drop i (each bitAnd x y)))
+      ≡ bitAnd (opened (drop i x)) (opened (drop i y))
   unfolding order crossed
-  crossed-order zero i e = rw (opened-past x i (omega arith), opened-past (each bitAnd x y) i (omega (arith, length-each bitAnd x y same)))
+  crossed-order zero i e =
+      let l = length-each bitAnd x y same in
+      rw (opened-past x i (omega arith), opened-past (each bitAnd x y) i (omega arith))
   crossed-order (suc m) i e =
       let a = getD x i 0 in
       let b = getD y i 0 in
@@ -131,25 +146,39 @@ module _ (x y : List ℕ) (same : length y ≡ length x) where
         opened-drop x i (omega arith),
         opened-drop y i (omega arith),
       )
-      (bits (a ∷ b ∷ xs ∷ ys ∷ rest ∷ d ∷ []) (v 0 ⊗ v 3 ⊕ v 2 ⊗ v 1 ⊕ v 4 ⊕ (v 0 ⊗ v 1 ⊕ v 5)) (v 0 ⊗ v 3 ⊕ v 2 ⊗ v 1 ⊕ v 0 ⊗ v 1 ⊕ (v 4 ⊕ v 5)) tt
+      (bits (a ∷ b ∷ xs ∷ ys ∷ rest ∷ d ∷ [])
+      (v 0 ⊗ v 3 ⊕ v 2 ⊗ v 1 ⊕ v 4 ⊕ (v 0 ⊗ v 1 ⊕ v 5))
+      (v 0 ⊗ v 3 ⊕ v 2 ⊗ v 1 ⊕ v 0 ⊗ v 1 ⊕ (v 4 ⊕ v 5)) tt
       ∙ ap (bitXor (bitXor (bitXor (bitAnd a ys) (bitAnd xs b)) (bitAnd a b))) (crossed-order m (i + 1) (omega arith))
       ∙ bits (a ∷ b ∷ xs ∷ ys ∷ []) (v 0 ⊗ v 3 ⊕ v 2 ⊗ v 1 ⊕ v 0 ⊗ v 1 ⊕ v 2 ⊗ v 3) ((v 0 ⊕ v 2) ⊗ (v 1 ⊕ v 3)) tt)
 
-pub and-rule : (n : ℕ) (x y : List ℕ) → length x ≡ n → length y ≡ n → Rule (andDraws n) (Shares n (bitAnd (opened x) (opened y))) (and x y)
+-- with the cross terms that are still to come, z opens to the and
+abbrev Crossing : Sharing → Sharing → List (Place × Place) → Sharing → Type 0
+Crossing x y ps z = bitXor (crossed x y ps) (opened z) ≡ bitAnd (opened x) (opened y)
+
+pub and-rule : (n : ℕ) (x y : List ℕ) → length x ≡ n → length y ≡ n
+    → Rule (andDraws n) (Shares n (bitAnd (opened x) (opened y))) (and x y)
 unfolding and crossed
 and-rule n x y hx hy =
     let same : length y ≡ length x = hy ∙ sym hx in
+    let diagonal = each bitAnd x y in
     said
-    (pass-rule (cross x y) (λ ps z. Within n ps × (length z ≡ n) × (bitXor (crossed x y ps) (opened z) ≡ bitAnd (opened x) (opened y)))
+    (pass-rule (cross x y) (λ ps z. Within n ps × (length z ≡ n) × Crossing x y ps z)
     (λ p ps s z g.
     let a = bitAnd (getD x (p .0) 0) (getD y (p .1) 0) in
     let b = bitAnd (getD x (p .1) 0) (getD y (p .0) 0) in
     let two = two-set z (p .0) (p .1) s (bitXor (bitXor s a) b) (omega arith) (omega arith) in (
       g .0 .2,
       two .0 ∙ g .1,
-      ap (bitXor (crossed x y ps)) (two .1) ∙ bits (s ∷ a ∷ b ∷ crossed x y ps ∷ opened z ∷ []) (v 3 ⊕ (v 0 ⊕ v 1 ⊕ v 2 ⊕ (v 0 ⊕ v 4))) (v 1 ⊕ v 2 ⊕ v 3 ⊕ v 4) tt ∙ g .2,
+      ap (bitXor (crossed x y ps)) (two .1)
+          ∙ bits (s ∷ a ∷ b ∷ crossed x y ps ∷ opened z ∷ [])
+          (v 3 ⊕ (v 0 ⊕ v 1 ⊕ v 2 ⊕ (v 0 ⊕ v 4))) (v 1 ⊕ v 2 ⊕ v 3 ⊕ v 4) tt
+          ∙ g .2,
     ))
-    (order (length x) 0) (each bitAnd x y)
-    (within-order n (length x) 0 (omega arith), length-each bitAnd x y same ∙ hx, crossed-order x y same (length x) 0 (omega arith)))
+    (order (length x) 0) diagonal (
+      within-order n (length x) 0 (omega arith),
+      length-each bitAnd x y same ∙ hx,
+      crossed-order x y same (length x) 0 (omega arith),
+    ))
     (length-order (length x) 0 ∙ ap andDraws hx)
     (λ z g. (g .1, g .2))

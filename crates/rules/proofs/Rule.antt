@@ -1,10 +1,11 @@
--- Rules that draw, put together: what a composite draws, that no other word has a say, and what it makes, from the same facts of its parts.
+-- Rules that draw, put together: what a composite draws, that no other word has a say, and what it makes, from the
+-- same facts of its parts.
 use Prim.Native.Nat.{ℕ, zero, suc, _+_}
 use mathlib.Core.Path.{_≡_, refl, sym, ap, _∙_, subst}
 use mathlib.Core.List.{List, [], _∷_}
 use native.Mathlib.Omega.{arith}
 use lib.ListN.{length, getD}
-use Rattle.rules.specs.Supply.{Draw, Rule, next}
+use Rattle.rules.specs.Supply.{Place, Supply, Sharing, Draw, Rule, next}
 use Rattle.rules.specs.Shares.{Step, pass}
 
 -- nothing is drawn
@@ -12,23 +13,32 @@ pub give : {S : Type 0} (P : S → Type 0) (s : S) → P s → Rule 0 P (λ ws a
 give P s p = record { place = λ ws at. omega arith; same = λ ws vs at h. refl; makes = λ ws at. p }
 
 -- the next word
-pub word : Rule 1 (λ s. Unit {0}) (λ ws at. (getD ws at 0, at + 1))
-word = record { place = λ ws at. refl; same = λ ws vs at h. ap (λ s. (s, at + 1)) (h at (omega arith) (omega arith)); makes = λ ws at. tt }
+pub next-word : Rule 1 (λ s. Unit {0}) (λ ws at. (getD ws at 0, at + 1))
+next-word =
+    record {
+      place = λ ws at. refl;
+      same = λ ws vs at h. ap (λ s. (s, at + 1)) (h at (omega arith) (omega arith));
+      makes = λ ws at. tt;
+    }
 
 -- one rule, then another on what it made
-pub bind : {S R : Type 0} {d e : ℕ} {P : S → Type 0} {Q : R → Type 0} {r : Draw S} {s : S → Draw R} → Rule d P r → ((z : S) → P z → Rule e Q (s z))
+pub bind : {S R : Type 0} {d e : ℕ} {P : S → Type 0} {Q : R → Type 0} {r : Draw S} {s : S → Draw R}
+    → Rule d P r
+    → ((z : S) → P z → Rule e Q (s z))
     → Rule (d + e) Q (λ ws at. s (r ws at .0) ws (r ws at .1))
 bind {S = S} {r = r} {s = s} a b =
     record {
       place = λ ws at. b (r ws at .0) (a .makes ws at) .place ws (r ws at .1) ∙ omega (arith, a .place ws at);
       same = λ ws vs at h.
-          b (r ws at .0) (a .makes ws at) .same ws vs (r ws at .1) (λ i l u. h i (omega (arith, a .place ws at)) (omega (arith, a .place ws at)))
+          b (r ws at .0) (a .makes ws at) .same ws vs (r ws at .1)
+          (λ i l u. h i (omega (arith, a .place ws at)) (omega (arith, a .place ws at)))
           ∙ ap (λ (t : S × ℕ). s (t .0) vs (t .1)) (a .same ws vs at (λ i l u. h i l (omega arith)));
       makes = λ ws at. b (r ws at .0) (a .makes ws at) .makes ws (r ws at .1);
     }
 
 -- the same rule, its count or what it makes said otherwise
-pub said : {S : Type 0} {d e : ℕ} {P Q : S → Type 0} {r : Draw S} → Rule d P r → d ≡ e → ((z : S) → P z → Q z) → Rule e Q r
+pub said : {S : Type 0} {d e : ℕ} {P Q : S → Type 0} {r : Draw S}
+    → Rule d P r → d ≡ e → ((z : S) → P z → Q z) → Rule e Q r
 said {r = r} a n f =
     record {
       place = λ ws at. a .place ws at ∙ ap (λ m. at + m) n;
@@ -40,22 +50,28 @@ pub counted : {S : Type 0} {d e : ℕ} {P : S → Type 0} {r : Draw S} → Rule 
 counted a n = said a n (λ z p. p)
 
 -- one draw for each pair: P says what holds with the pairs that are left
-pub pass-rule : (step : Step) (P : List (ℕ × ℕ) → List ℕ → Type 0)
-    → ((p : ℕ × ℕ) (ps : List (ℕ × ℕ)) (s : ℕ) (z : List ℕ) → P (p ∷ ps) z → P ps (step (p .0) (p .1) s z))
-    → (ps : List (ℕ × ℕ)) (z : List ℕ) → P ps z → Rule (length ps) (P []) (pass step ps z)
+pub pass-rule : (step : Step) (P : List (Place × Place) → Sharing → Type 0)
+    → ((p : Place × Place) (ps : List (Place × Place)) (s : ℕ) (z : Sharing)
+    → P (p ∷ ps) z → P ps (step (p .0) (p .1) s z))
+    → (ps : List (Place × Place)) (z : Sharing) → P ps z → Rule (length ps) (P []) (pass step ps z)
 unfolding pass
 pass-rule step P one [] z h = give (P []) z h
 pass-rule step P one (p ∷ ps) z h =
-    counted (bind word (λ s u. pass-rule step P one ps (step (p .0) (p .1) s z) (one p ps s z h))) (omega arith)
+    counted (bind next-word (λ s u. pass-rule step P one ps (step (p .0) (p .1) s z) (one p ps s z h))) (omega arith)
 
 -- the next m words
 pub next-rule : (m : ℕ) → Rule m (λ z. length z ≡ m) (next m)
 unfolding next
 next-rule zero = give (λ z. length z ≡ 0) [] refl
-next-rule (suc m) = counted (bind word (λ s u. bind (next-rule m) (λ z e. give (λ y. length y ≡ suc m) (s ∷ z) (ap suc e)))) (omega arith)
+next-rule (suc m) =
+    counted
+    (bind next-word (λ s u.
+    bind (next-rule m) (λ z e. give (λ y. length y ≡ suc m) (s ∷ z) (ap suc e))))
+    (omega arith)
 
 -- a rule that is another at every supply
-pub alike : {S : Type 0} {d : ℕ} {P : S → Type 0} {r s : Draw S} → ((ws : List ℕ) (at : ℕ) → r ws at ≡ s ws at) → Rule d P s → Rule d P r
+pub alike : {S : Type 0} {d : ℕ} {P : S → Type 0} {r s : Draw S}
+    → ((ws : Supply) (at : Place) → r ws at ≡ s ws at) → Rule d P s → Rule d P r
 alike {S = S} {P = P} {r = r} {s = s} e a =
     record {
       place = λ ws at. ap (λ (t : S × ℕ). t .1) (e ws at) ∙ a .place ws at;

@@ -1,50 +1,52 @@
 -- Section 5: the conversions of n shares. The addition and the refresh that they use are parameters.
 use Prim.Native.Nat.{ℕ, zero, suc, _-_, _/_}
 use mathlib.Core.Bool.{Bool, true, false}
-use mathlib.Core.List.{List, [], _∷_, _++_, map}
+use mathlib.Core.List.{[], _∷_, _++_, map}
 use lib.Dec.{leb}
 use lib.ListN.{length, take, drop}
-use Rattle.words.specs.Word.{minus}
-use Rattle.rules.specs.Supply.{Draw, next, opened}
+use Rattle.words.specs.Word.{Width, minus}
+use Rattle.rules.specs.Supply.{Count, Sharing, Draw, next, opened}
 use Rattle.rules.specs.Shares.{expand}
 
 abbrev pub Adder : Type 0
-Adder = List ℕ → List ℕ → Draw (List ℕ)
+Adder = Sharing → Sharing → Draw Sharing
 
 abbrev pub Refresh : Type 0
-Refresh = List ℕ → Draw (List ℕ)
+Refresh = Sharing → Draw Sharing
 
 -- half of n shares, converted, brought to n shares
-unfoldable pub widen : ℕ → List ℕ → Draw (List ℕ)
+unfoldable pub widen : Count → Sharing → Draw Sharing
 widen n x = expand x
 
 -- convert the left half and expand it, then the right half and expand it, then add
-unfoldable pub halved : (List ℕ → Draw (List ℕ)) → Adder → List ℕ → Draw (List ℕ)
-halved convert add a ws at =
+unfoldable pub halved : (Sharing → Draw Sharing) → Adder → Sharing → Draw Sharing
+halved convert adder a ws at =
     let n = length a in
     let left = convert (take (n / 2) a) ws at in
     let x = widen n (left .0) ws (left .1) in
     let right = convert (drop (n / 2) a) ws (x .1) in
     let y = widen n (right .0) ws (right .1) in
-    add (x .0) (y .0) ws (y .1)
+    adder (x .0) (y .0) ws (y .1)
 
 abbrev pub choose : {A : Type 0} → Bool → A → A → A
 choose true a b = a
 choose false a b = b
 
--- Arithmetic to Boolean: one share stays, otherwise by halves. At most `deep` halvings; as many as there are shares are enough.
-unfoldable pub toBoolIn : Adder → ℕ → List ℕ → Draw (List ℕ)
-toBoolIn add zero a ws at = (a, at)
-toBoolIn add (suc deep) a ws at = choose (leb (length a) 1) (a, at) (halved (toBoolIn add deep) add a ws at)
+-- Arithmetic to Boolean: one share stays, otherwise by halves. At most `deep` halvings; as many as there are shares
+-- are enough.
+unfoldable pub toBoolIn : Adder → ℕ → Sharing → Draw Sharing
+toBoolIn adder zero a ws at = (a, at)
+toBoolIn adder (suc deep) a ws at = choose (leb (length a) 1) (a, at) (halved (toBoolIn adder deep) adder a ws at)
 
-unfoldable pub toBool : Adder → List ℕ → Draw (List ℕ)
-toBool add a = toBoolIn add (length a) a
+unfoldable pub toBool : Adder → Sharing → Draw Sharing
+toBool adder a = toBoolIn adder (length a) a
 
--- Boolean to arithmetic: draw A1 … A(n−1); convert −A1, …, −A(n−1), 0 to Boolean; add to x (x is the first operand); refresh; An is the XOR
-unfoldable pub toArith : ℕ → Adder → Refresh → List ℕ → Draw (List ℕ)
-toArith k add refresh x ws at =
+-- Boolean to arithmetic: draw A1 … A(n−1); convert −A1, …, −A(n−1), 0 to Boolean; add to x (x is the first operand);
+-- refresh; An is the XOR
+unfoldable pub toArith : Width → Adder → Refresh → Sharing → Draw Sharing
+toArith k adder fresh x ws at =
     let A = next (length x - 1) ws at in
-    let b = toBool add (map (minus k 0) (A .0) ++ (0 ∷ [])) ws (A .1) in
-    let s = add x (b .0) ws (b .1) in
-    let y = refresh (s .0) ws (s .1) in
+    let b = toBool adder (map (minus k 0) (A .0) ++ (0 ∷ [])) ws (A .1) in
+    let s = adder x (b .0) ws (b .1) in
+    let y = fresh (s .0) ws (s .1) in
     (A .0 ++ (opened (y .0) ∷ []), y .1)

@@ -3,11 +3,11 @@ use Prim.Native.Nat.{ℕ, zero, suc, _+_, _-_}
 use mathlib.Core.List.{List, [], _∷_, _++_}
 use lib.Bits.{bitXor, bitAnd}
 use lib.ListN.{length, getD, set, replicate}
-use Rattle.words.specs.Word.{double}
-use Rattle.rules.specs.Supply.{Draw}
+use Rattle.words.specs.Word.{Width, Word, double}
+use Rattle.rules.specs.Supply.{Place, Sharing, Draw}
 
 -- by shares
-unfoldable pub each : (ℕ → ℕ → ℕ) → List ℕ → List ℕ → List ℕ
+unfoldable pub each : (Word → Word → Word) → Sharing → Sharing → Sharing
 each f [] ys = []
 each f (x ∷ xs) [] = []
 each f (x ∷ xs) (y ∷ ys) = f x y ∷ each f xs ys
@@ -15,24 +15,24 @@ each f (x ∷ xs) (y ∷ ys) = f x y ∷ each f xs ys
 -- ---- one draw for each pair of shares
 -- what the word s, drawn for the pair i, j, does to the shares z
 abbrev pub Step : Type 0
-Step = ℕ → ℕ → ℕ → List ℕ → List ℕ
+Step = Place → Place → Word → Sharing → Sharing
 
-unfoldable pub pass : Step → List (ℕ × ℕ) → List ℕ → Draw (List ℕ)
+unfoldable pub pass : Step → List (Place × Place) → Sharing → Draw Sharing
 pass step [] z ws at = (z, at)
 pass step (p ∷ ps) z ws at = pass step ps (step (p .0) (p .1) (getD ws at 0) z) ws (at + 1)
 
 -- m pairs (i, j), (i, j+1), …
-unfoldable pub along : ℕ → ℕ → ℕ → List (ℕ × ℕ)
+unfoldable pub along : ℕ → Place → Place → List (Place × Place)
 along zero i j = []
 along (suc m) i j = (i, j) ∷ along m i (j + 1)
 
 -- all pairs of the m shares from place i on: (i, i+1), (i, i+2), …, (i+1, i+2), …
-unfoldable pub order : ℕ → ℕ → List (ℕ × ℕ)
+unfoldable pub order : ℕ → Place → List (Place × Place)
 order zero i = []
 order (suc m) i = along m i (i + 1) ++ order m (i + 1)
 
 -- m pairs (i, last), (i+1, last), …
-unfoldable pub column : ℕ → ℕ → ℕ → List (ℕ × ℕ)
+unfoldable pub column : Place → ℕ → Place → List (Place × Place)
 column last zero i = []
 column last (suc m) i = (i, last) ∷ column last m (i + 1)
 
@@ -43,14 +43,14 @@ mix i j s z =
     set y j (bitXor (getD y j 0) s)
 
 -- Refresh: for i = 1 to n−1 draw s; yi = xi ⊕ s, and s is XORed into share n
-unfoldable pub refreshLast : List ℕ → Draw (List ℕ)
+unfoldable pub refreshLast : Sharing → Draw Sharing
 refreshLast x = pass mix (column (length x - 1) (length x - 1) 0) x
 
-unfoldable pub refresh : List ℕ → Draw (List ℕ)
+unfoldable pub refresh : Sharing → Draw Sharing
 refresh x = refreshLast x
 
 -- Expand, n to 2n: each xi in turn gives xi ⊕ s, s
-unfoldable pub expand : List ℕ → Draw (List ℕ)
+unfoldable pub expand : Sharing → Draw Sharing
 expand [] ws at = ([], at)
 expand (x ∷ xs) ws at =
     let s = getD ws at 0 in
@@ -58,7 +58,7 @@ expand (x ∷ xs) ws at =
     (bitXor x s ∷ s ∷ rest .0, rest .1)
 
 -- AND: zi gets s, and zj gets (s ⊕ (xi ∧ yj)) ⊕ (xj ∧ yi)
-abbrev pub cross : List ℕ → List ℕ → Step
+abbrev pub cross : Sharing → Sharing → Step
 cross x y i j s z =
     let xi = getD x i 0 in
     let yi = getD y i 0 in
@@ -68,21 +68,21 @@ cross x y i j s z =
     set w j (bitXor (getD w j 0) (bitXor (bitXor s (bitAnd xi yj)) (bitAnd xj yi)))
 
 -- for all pairs in order; each zi starts from xi ∧ yi
-unfoldable pub and : List ℕ → List ℕ → Draw (List ℕ)
+unfoldable pub and : Sharing → Sharing → Draw Sharing
 and x y = pass (cross x y) (order (length x) 0) (each bitAnd x y)
 
 -- Addition: m times u = 2(AND(u, a) ⊕ w)
-abbrev pub doubleXor : ℕ → ℕ → ℕ → ℕ
+abbrev pub doubleXor : Width → Word → Word → Word
 doubleXor k t w = double k (bitXor t w)
 
-unfoldable pub carries : ℕ → List ℕ → List ℕ → ℕ → List ℕ → Draw (List ℕ)
+unfoldable pub carries : Width → Sharing → Sharing → ℕ → Sharing → Draw Sharing
 carries k a w zero u ws at = (u, at)
 carries k a w (suc m) u ws at =
     let t = and u a ws at in
     carries k a w m (each (doubleXor k) (t .0) w) ws (t .1)
 
 -- w = AND(x, y); a = x ⊕ y; u = 0 in all shares; k−1 rounds; z = x ⊕ y ⊕ u
-unfoldable pub add : ℕ → List ℕ → List ℕ → Draw (List ℕ)
+unfoldable pub add : Width → Sharing → Sharing → Draw Sharing
 add k x y ws at =
     let w = and x y ws at in
     let a = each bitXor x y in

@@ -1,4 +1,5 @@
--- Section 7: the reference values marked P, as rows of one table: what the definition gives, and what the document states.
+-- Section 7: the reference values marked P, as rows of one table: what the definition gives, and what the document
+-- states.
 use Prim.Native.Nat.{ℕ}
 use mathlib.Core.Path.{_≡_, refl}
 use mathlib.Core.List.{List, [], _∷_, map, _++_}
@@ -23,7 +24,11 @@ table =
     row (b2aRecord 8 0x12 0x34 0x56) (0x44 ∷ 0xEE ∷ 0xFC ∷ 0x62 ∷ 0x70 ∷ 0x0E ∷ 0xF2 ∷ []) ∷
     -- P2: k=4, A=9, r=C, G=6
     row (a2bRecord 4 9 0xC 6)
-    ((0xC ∷ 0xA ∷ 2 ∷ 5 ∷ 3 ∷ 0 ∷ 2 ∷ 8 ∷ 0xA ∷ []) ++ (0xC ∷ 6 ∷ 8 ∷ 0xE ∷ 0xC ∷ []) ++ (0xC ∷ 6 ∷ 8 ∷ 0xE ∷ 0xC ∷ []) ++ (0xC ∷ 6 ∷ 8 ∷ 0xE ∷ 0xC ∷ []) ++ (9 ∷ [])) ∷
+    ((0xC ∷ 0xA ∷ 2 ∷ 5 ∷ 3 ∷ 0 ∷ 2 ∷ 8 ∷ 0xA ∷ [])
+    ++ (0xC ∷ 6 ∷ 8 ∷ 0xE ∷ 0xC ∷ [])
+    ++ (0xC ∷ 6 ∷ 8 ∷ 0xE ∷ 0xC ∷ [])
+    ++ (0xC ∷ 6 ∷ 8 ∷ 0xE ∷ 0xC ∷ [])
+    ++ (9 ∷ [])) ∷
     -- P3: AND, k=8: (F0, 0F), (3C, 00), word 55
     row (and (0xF0 ∷ 0x0F ∷ []) (0x3C ∷ 0 ∷ []) (0x55 ∷ []) 0 .0) (0x65 ∷ 0x59 ∷ []) ∷
     -- P4: refresh (01, 02, 04) with 10, 20
@@ -39,11 +44,14 @@ table =
     -- P9: W(2), W(4), W(8), as the conversion itself draws at 32 bits
     row (map (λ n. toBool (add 32) (replicate n 0) [] 0 .1) (2 ∷ 4 ∷ 8 ∷ [])) (34 ∷ 264 ∷ 1432 ∷ []) ∷
     -- P10: Boolean to arithmetic at 1, 2, 4 and 8 shares, as the conversion itself draws
-    row (map (λ n. toArith 32 (add 32) refresh (replicate n 0) [] 0 .1) (1 ∷ 2 ∷ 4 ∷ 8 ∷ [])) (0 ∷ 68 ∷ 462 ∷ 2342 ∷ []) ∷
+    row (map (λ n. toArith 32 (add 32) refresh (replicate n 0) [] 0 .1) (1 ∷ 2 ∷ 4 ∷ 8 ∷ []))
+    (0 ∷ 68 ∷ 462 ∷ 2342 ∷ []) ∷
     -- P11: HMAC at 2 shares, of 55 and of 56 bytes; that HMAC draws so is hmacShares-sized of proofs/Sizes.antt
     row (map (hmacDraws (sha1 32) 2) (55 ∷ 56 ∷ [])) (41760 ∷ 52200 ∷ []) ∷
     []
 
 pub reference : map (λ (r : Row). r .given) table ≡ map (λ (r : Row). r .stated) table
-unfolding table psi b2aRecord a2bStart a2bRound a2bRounds a2bRecord plus minus shift next opened each pass along order column refreshLast refresh expand and carries add widen halved toBoolIn toBool toArith andDraws quarterAnds roundsAnds compressAnds
+unfolding table psi b2aRecord a2bStart a2bRound a2bRounds a2bRecord plus minus shift next opened
+    each pass along order column refreshLast refresh expand and carries add
+    widen halved toBoolIn toBool toArith andDraws quarterAnds roundsAnds compressAnds
 reference = refl

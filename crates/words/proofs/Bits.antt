@@ -1,6 +1,6 @@
--- Any equation in ⊕ and ∧ that holds of single bits holds of all numbers: one law, by computation over the table of bits.
--- With it stand the laws of a number's lowest digit, for inductions that halve a word.
-use mathlib.Core.Path.{_≡_, refl, sym, ap₂, _∙_, subst}
+-- Any equation in ⊕ and ∧ that holds of single bits holds of all numbers: one law, by computation over the table of
+-- bits. With it stand the laws of a number's lowest digit, for inductions that halve a word.
+use mathlib.Core.Path.{_≡_, refl, sym, ap₂, _∙_}
 use mathlib.Core.Bool.{Bool, true, false}
 use mathlib.Core.List.{List, [], _∷_, map}
 use Prim.Native.Nat.{ℕ, zero, suc, _+_, _*_, _/_, _%_, _≤_, _<_, min}
@@ -25,19 +25,27 @@ differ-lt (suc zero) (suc (suc y)) hx hy = omega arith
 differ-lt (suc (suc x)) zero hx hy = omega arith
 differ-lt (suc (suc x)) (suc y) hx hy = omega arith
 
-pub xor-digit : (x y a b d e : ℕ) → x ≡ a * 2 + d → d < 2 → y ≡ b * 2 + e → e < 2 → bitXor x y ≡ bitXor a b * 2 + differ d e
-xor-digit x y a b d e p h q l =
+-- f goes digit by digit, as g does on the lowest one
+abbrev pub Digitwise : (ℕ → ℕ → ℕ) → (ℕ → ℕ → ℕ) → Type 0
+Digitwise f g =
+    (x y a b d e : ℕ) → x ≡ a * 2 + d → d < 2 → y ≡ b * 2 + e → e < 2 → f x y ≡ f a b * 2 + g d e
+
+digitwise : (f g : ℕ → ℕ → ℕ)
+    → ((x y : ℕ) → f x y ≡ f (x / 2) (y / 2) * 2 + g (x % 2) (y % 2))
+    → Digitwise f g
+digitwise f g step x y a b d e p h q l =
     let m = parts x a d p h in
     let n = parts y b e q l in
-    rw (xor-step x y, m .0, m .1, n .0, n .1)
+    rw (step x y, m .0, m .1, n .0, n .1)
 
-pub and-digit : (x y a b d e : ℕ) → x ≡ a * 2 + d → d < 2 → y ≡ b * 2 + e → e < 2 → bitAnd x y ≡ bitAnd a b * 2 + min d e
-and-digit x y a b d e p h q l =
-    let m = parts x a d p h in
-    let n = parts y b e q l in
-    rw (and-step x y, m .0, m .1, n .0, n .1)
+pub xor-digit : Digitwise bitXor differ
+xor-digit = digitwise bitXor differ xor-step
 
-pub xor-halves : (a b : ℕ) → (bitXor a b / 2 ≡ bitXor (a / 2) (b / 2)) × (bitXor a b % 2 ≡ differ (a % 2) (b % 2))
+pub and-digit : Digitwise bitAnd min
+and-digit = digitwise bitAnd min and-step
+
+pub xor-halves : (a b : ℕ)
+    → (bitXor a b / 2 ≡ bitXor (a / 2) (b / 2)) × (bitXor a b % 2 ≡ differ (a % 2) (b % 2))
 xor-halves a b = parts _ _ _ (xor-step a b) (differ-lt _ _ (odd-lt a) (odd-lt b))
 
 -- ---- every assignment of bits to a list of variables
@@ -69,7 +77,9 @@ every-at [] p t = t
 every-at (a ∷ ρ) p t =
     let e = every ρ (λ β. p (0 ∷ β)) in
     let f = every ρ (λ β. p (1 ∷ β)) in
-    go (a % 2) (odd-lt a) (every-at ρ (λ β. p (0 ∷ β)) (both-0 e f t)) (every-at ρ (λ β. p (1 ∷ β)) (both-1 e f t))
+    let at-zero = every-at ρ (λ β. p (0 ∷ β)) (both-0 e f t) in
+    let at-one = every-at ρ (λ β. p (1 ∷ β)) (both-1 e f t) in
+    go (a % 2) (odd-lt a) at-zero at-one
   where
     go : (d : ℕ) → d < 2 → T (p (0 ∷ map odd ρ)) → T (p (1 ∷ map odd ρ)) → T (p (d ∷ map odd ρ))
     go zero h x y = x
@@ -84,10 +94,15 @@ every-map (a ∷ ρ) f p = ap₂ both (every-map ρ f (λ β. p (0 ∷ β))) (ev
 abbrev pub three : (ℕ → ℕ → ℕ → ℕ) → List ℕ → ℕ
 three f β = f (getD β 0 0) (getD β 1 0) (getD β 2 0)
 
-pub digits : (f g : ℕ → ℕ → ℕ → ℕ) → T (every (0 ∷ 0 ∷ 0 ∷ []) (λ β. eqb (three f β) (three g β))) → (a b c : ℕ) → a < 2 → b < 2 → c < 2 → f a b c ≡ g a b c
+abbrev pub agree : (f g : ℕ → ℕ → ℕ → ℕ) → List ℕ → Bool
+agree f g β = eqb (three f β) (three g β)
+
+pub digits : (f g : ℕ → ℕ → ℕ → ℕ) → T (every (0 ∷ 0 ∷ 0 ∷ []) (agree f g))
+    → (a b c : ℕ) → a < 2 → b < 2 → c < 2 → f a b c ≡ g a b c
 unfolding odd
 digits f g t a b c ha hb hc =
-    let e = eqb→eq (f (a % 2) (b % 2) (c % 2)) (g (a % 2) (b % 2) (c % 2)) (every-at (a ∷ b ∷ c ∷ []) (λ β. eqb (three f β) (three g β)) t) in
+    let here = every-at (a ∷ b ∷ c ∷ []) (agree f g) t in
+    let e = eqb→eq (f (a % 2) (b % 2) (c % 2)) (g (a % 2) (b % 2) (c % 2)) here in
     rw (mod-eq-of-lt ha, mod-eq-of-lt hb, mod-eq-of-lt hc) at e
 
 -- ---- terms in ⊕ and ∧, their values over words and over single bits
@@ -148,10 +163,10 @@ same a b β = eqb (bit β a) (bit β b)
 halving : (n : ℕ) (ρ : List ℕ) (a b : Term) → size ρ ≤ n → T (every ρ (same a b)) → val ρ a ≡ val ρ b
 halving zero ρ a b h t = val-zero ρ a h ∙ sym (val-zero ρ b h)
 halving (suc n) ρ a b h t =
-    val-step ρ a
-    ∙ ap₂ (λ (x y : ℕ). x * 2 + y) (halving n (map half ρ) a b (omega (arith, size-half ρ)) (subst T (sym (every-map ρ half (same a b))) t))
-    (eqb→eq _ _ (every-at ρ (same a b) t))
-    ∙ sym (val-step ρ b)
+    let smaller : size (map half ρ) ≤ n = omega (arith, size-half ρ) in
+    let above = halving n (map half ρ) a b smaller (rw (every-map ρ half (same a b)) t) in
+    let here = eqb→eq _ _ (every-at ρ (same a b) t) in
+    val-step ρ a ∙ ap₂ (λ (x y : ℕ). x * 2 + y) above here ∙ sym (val-step ρ b)
 
 -- The law. `bits (a ∷ b ∷ []) (v 0 ⊕ v 1) (v 1 ⊕ v 0) tt : bitXor a b ≡ bitXor b a`
 pub bits : (ρ : List ℕ) (a b : Term) → T (every ρ (same a b)) → val ρ a ≡ val ρ b

@@ -1,4 +1,4 @@
--- The carries of a sum. `carried x y` are the carries out of each place of x + y: every adder is judged by its two laws.
+-- The carries of a sum. `carried x y` are those out of each place of x + y: every adder is judged by its two laws.
 -- The carry loop, k − 1 rounds of u = 2((u ∧ (x ⊕ y)) ⊕ (x ∧ y)), finds them.
 use mathlib.Core.Path.{_≡_, sym, ap, _∙_}
 use Prim.Native.Nat.{ℕ, zero, suc, _+_, _-_, _*_, _/_, _%_, _^_, _≤_, _<_, min}
@@ -32,7 +32,8 @@ abbrev into : ℕ → ℕ → ℕ → ℕ
 into x y c = bitXor (bitXor x y) (x + y + c)
 
 -- each place's carry in is the carry out of the place below it
-into-out : (k x y c : ℕ) → x < 2 ^ k → y < 2 ^ k → c < 2 → into x y c ≡ out (bitXor x y) (bitAnd x y) (into x y c) * 2 + c
+into-out : (k x y c : ℕ) → x < 2 ^ k → y < 2 ^ k → c < 2
+    → into x y c ≡ out (bitXor x y) (bitAnd x y) (into x y c) * 2 + c
 into-out zero x y c hx hy hc = rw (lt-one hx, lt-one hy) (rw (and-zero-r (0 + 0 + c)) (omega arith))
 into-out (suc k) x y c hx hy hc =
     let x₀ : x % 2 < 2 = omega arith in
@@ -43,13 +44,15 @@ into-out (suc k) x y c hx hy hc =
     let a = bitXor (x / 2) (y / 2) in
     let w = bitAnd (x / 2) (y / 2) in
     let u = into (x / 2) (y / 2) m in
-    let above = into-out k (x / 2) (y / 2) m (omega arith) (omega arith) (digit-out-lt (x % 2) (y % 2) c x₀ y₀ hc) in
-    let sum : x + y + c ≡ (x / 2 + y / 2 + m) * 2 + differ d c = omega (arith, full-adder (x % 2) (y % 2) c x₀ y₀ hc) in
+    let s = x / 2 + y / 2 + m in
+    let m₀ = digit-out-lt (x % 2) (y % 2) c x₀ y₀ hc in
+    let above = into-out k (x / 2) (y / 2) m (omega arith) (omega arith) m₀ in
+    let sum : x + y + c ≡ s * 2 + differ d c = omega (arith, full-adder (x % 2) (y % 2) c x₀ y₀ hc) in
     let here : into x y c ≡ u * 2 + c =
-    xor-digit (bitXor x y) (x + y + c) a (x / 2 + y / 2 + m) d (differ d c) (xor-step x y) d₀ sum (differ-lt d c d₀ hc)
+    xor-digit _ _ a s d (differ d c) (xor-step x y) d₀ sum (differ-lt d c d₀ hc)
     ∙ ap (λ n. u * 2 + n) (carry-back (x % 2) (y % 2) c x₀ y₀ hc) in
-    let both = and-digit (into x y c) (bitXor x y) u a c d here hc (xor-step x y) d₀ in
-    let gone = xor-digit (bitAnd (into x y c) (bitXor x y)) (bitAnd x y) (bitAnd u a) w (min c d) (min (x % 2) (y % 2)) both (omega arith) (and-step x y) (omega arith) in
+    let both = and-digit _ _ u a c d here hc (xor-step x y) d₀ in
+    let gone = xor-digit _ _ (bitAnd u a) w (min c d) _ both (omega arith) (and-step x y) (omega arith) in
     here ∙ ap (λ n. n * 2 + c) (above ∙ sym gone)
 
 unfoldable pub carried : ℕ → ℕ → ℕ
@@ -84,19 +87,25 @@ out-mod j a w u = xor-mod (bitAnd u a) w j ∙ ap (λ n. bitXor n (w % 2 ^ j)) (
 
 -- each round makes one digit more right: h is any word that is its own outcome
 module _ (k a w h : ℕ) (fixed : h ≡ out a w (h * 2)) where
-  carry-agrees : (n j u : ℕ) → n + j ≤ k → u % 2 ^ j ≡ h * 2 % 2 ^ j → carry k a w n u % 2 ^ (n + j) ≡ h * 2 % 2 ^ (n + j)
+  carry-agrees : (n j u : ℕ) → n + j ≤ k
+      → u % 2 ^ j ≡ h * 2 % 2 ^ j
+      → carry k a w n u % 2 ^ (n + j) ≡ h * 2 % 2 ^ (n + j)
   unfolding carry
   carry-agrees zero j u l e = rw zero-add e
   carry-agrees (suc n) j u l e =
       let more : suc n + j ≡ n + suc j = omega arith in
       let round : out a w u % 2 ^ j ≡ h % 2 ^ j =
-      out-mod j a w u ∙ ap (out (a % 2 ^ j) (w % 2 ^ j)) e ∙ sym (out-mod j a w (h * 2)) ∙ ap (λ n. n % 2 ^ j) (sym fixed) in
-      rw more
-      (carry-agrees n (suc j) (double k (out a w u)) (omega arith)
-      (double-mod k j (out a w u) (omega arith) ∙ ap (λ n. n * 2) round ∙ sym (twice-mod j h)))
+      out-mod j a w u
+      ∙ ap (out (a % 2 ^ j) (w % 2 ^ j)) e
+      ∙ sym (out-mod j a w (h * 2))
+      ∙ ap (λ m. m % 2 ^ j) (sym fixed) in
+      let doubled : double k (out a w u) % 2 ^ suc j ≡ h * 2 % 2 ^ suc j =
+      double-mod k j (out a w u) (omega arith) ∙ ap (λ m. m * 2) round ∙ sym (twice-mod j h) in
+      rw more (carry-agrees n (suc j) (double k (out a w u)) (omega arith) doubled)
 
 -- The carry loop adds: k − 1 rounds from zero.
-pub carry-sum : (k x y : ℕ) → x < 2 ^ k → y < 2 ^ k → bitXor (bitXor x y) (carry k (bitXor x y) (bitAnd x y) (k - 1) 0) ≡ plus k x y
+pub carry-sum : (k x y : ℕ) → x < 2 ^ k → y < 2 ^ k
+    → bitXor (bitXor x y) (carry k (bitXor x y) (bitAnd x y) (k - 1) 0) ≡ plus k x y
 unfolding carry plus
 carry-sum zero x y hx hy = rw (lt-one hx, lt-one hy)
 carry-sum (suc j) x y hx hy =
@@ -106,7 +115,11 @@ carry-sum (suc j) x y hx hy =
     let h = carried x y in
     let less : suc j - 1 ≡ j = omega arith in
     let last : j + 1 ≡ suc j = omega arith in
+    let fixed = carried-fixed k x y hx hy in
     let found : carry k a w j 0 ≡ h * 2 % 2 ^ k =
-    sym (mod-eq-of-lt (carry-lt k a w j 0 (pow-pos k))) ∙ rw last at (carry-agrees k a w h (carried-fixed k x y hx hy) j 1 0 (omega arith) (omega arith)) in
+    sym (mod-eq-of-lt (carry-lt k a w j 0 (pow-pos k)))
+    ∙ rw last at (carry-agrees k a w h fixed j 1 0 (omega arith) (omega arith)) in
     rw (less, found)
-    (ap (λ n. bitXor n (h * 2 % 2 ^ k)) (sym (mod-eq-of-lt (xor-lt k x y hx hy))) ∙ sym (xor-mod a (h * 2) k) ∙ ap (λ n. n % 2 ^ k) (carried-sum k x y hx hy))
+    (ap (λ n. bitXor n (h * 2 % 2 ^ k)) (sym (mod-eq-of-lt (xor-lt k x y hx hy)))
+    ∙ sym (xor-mod a (h * 2) k)
+    ∙ ap (λ n. n % 2 ^ k) (carried-sum k x y hx hy))

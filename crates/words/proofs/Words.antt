@@ -1,8 +1,9 @@
--- Laws of words of k bits: they stay below 2^k, sums and differences undo each other, and moving up respects ⊕ and ∧.
+-- Laws of words of k bits: they stay below 2^k, sums and differences undo each other, moving up respects ⊕ and ∧.
 use mathlib.Core.Path.{_≡_, sym, ap, _∙_}
 use mathlib.Core.List.{[], _∷_}
 use Prim.Native.Nat.{ℕ, suc, _+_, _-_, _*_, _/_, _%_, _^_, _≤_, _<_}
-use native.Mathlib.Nat.{mod-lt, mod-eq-of-lt, mod-add-mod, add-mod, add-mod-right, zero-mod, zero-mul, add-comm, add-zero, pow-suc}
+use native.Mathlib.Nat.{mod-lt, mod-eq-of-lt, mod-add-mod, add-mod, add-mod-right, zero-mod}
+use native.Mathlib.Nat.{zero-mul, add-comm, add-zero, pow-suc}
 use native.Mathlib.Omega.{arith}
 use lib.Arith.{mod-mul}
 use lib.Bits.{bitXor, xor-mod, xor-block}
@@ -38,8 +39,10 @@ shift-zero k s = rw (zero-mul (2 ^ s)) (zero-mod (2 ^ k))
 pub shift-xor : (k s a b : ℕ) → shift k s (bitXor a b) ≡ bitXor (shift k s a) (shift k s b)
 unfolding shift
 shift-xor k s a b =
-    ap (λ n. n % 2 ^ k) (sym (rw (add-zero (a * 2 ^ s), add-zero (b * 2 ^ s), add-zero (bitXor a b * 2 ^ s)) at (xor-block s a b 0 0 (pow-pos s) (pow-pos s))))
-    ∙ xor-mod (a * 2 ^ s) (b * 2 ^ s) k
+    let above = xor-block s a b 0 0 (pow-pos s) (pow-pos s) in
+    let moved : bitXor (a * 2 ^ s) (b * 2 ^ s) ≡ bitXor a b * 2 ^ s =
+    rw (add-zero (a * 2 ^ s), add-zero (b * 2 ^ s), add-zero (bitXor a b * 2 ^ s)) at above in
+    ap (λ n. n % 2 ^ k) (sym moved) ∙ xor-mod (a * 2 ^ s) (b * 2 ^ s) k
 
 -- the double's lowest digits are the number's, moved up
 pub twice-mod : (j n : ℕ) → n * 2 % 2 ^ suc j ≡ n % 2 ^ j * 2
@@ -49,7 +52,9 @@ twice-mod j n =
 
 pub double-mod : (k j n : ℕ) → suc j ≤ k → double k n % 2 ^ suc j ≡ n % 2 ^ j * 2
 unfolding shift
-double-mod k j n h = let whole : k ≡ k - suc j + suc j = omega arith in rw whole (mod-mod-pow (n * 2) (k - suc j) (suc j) ∙ twice-mod j n)
+double-mod k j n h =
+    let whole : k ≡ k - suc j + suc j = omega arith in
+    rw whole (mod-mod-pow (n * 2) (k - suc j) (suc j) ∙ twice-mod j n)
 
 -- ---- sums and differences
 pub plus-mod : (k a b : ℕ) → plus k (a % 2 ^ k) (b % 2 ^ k) ≡ (a + b) % 2 ^ k
@@ -61,14 +66,23 @@ pub minus-of : (k s a b : ℕ) → s < 2 ^ k → b < 2 ^ k → (s + b) % 2 ^ k �
 unfolding minus
 minus-of k s a b hs hb e =
     let whole : s + b + (2 ^ k - b) ≡ s + 2 ^ k = omega arith in
-    ap (λ x. (x + (2 ^ k - b)) % 2 ^ k) (sym e) ∙ mod-add-mod (s + b) (2 ^ k) (2 ^ k - b) ∙ ap (λ x. x % 2 ^ k) whole ∙ add-mod-right s (2 ^ k) ∙ mod-eq-of-lt hs
+    ap (λ x. (x + (2 ^ k - b)) % 2 ^ k) (sym e)
+    ∙ mod-add-mod (s + b) (2 ^ k) (2 ^ k - b)
+    ∙ ap (λ x. x % 2 ^ k) whole
+    ∙ add-mod-right s (2 ^ k)
+    ∙ mod-eq-of-lt hs
 
 pub plus-minus : (k x r : ℕ) → x < 2 ^ k → r < 2 ^ k → plus k (minus k x r) r ≡ x
 unfolding plus minus
 plus-minus k x r hx hr =
     let whole : x + (2 ^ k - r) + r ≡ x + 2 ^ k = omega arith in
-    mod-add-mod (x + (2 ^ k - r)) (2 ^ k) r ∙ ap (λ n. n % 2 ^ k) whole ∙ add-mod-right x (2 ^ k) ∙ mod-eq-of-lt hx
+    mod-add-mod (x + (2 ^ k - r)) (2 ^ k) r
+    ∙ ap (λ n. n % 2 ^ k) whole
+    ∙ add-mod-right x (2 ^ k)
+    ∙ mod-eq-of-lt hx
 
 pub minus-minus : (k x r : ℕ) → x < 2 ^ k → r < 2 ^ k → minus k x (minus k x r) ≡ r
 unfolding plus
-minus-minus k x r hx hr = minus-of k r x (minus k x r) hr (minus-lt k x r) (ap (λ n. n % 2 ^ k) (add-comm r (minus k x r)) ∙ plus-minus k x r hx hr)
+minus-minus k x r hx hr =
+    minus-of k r x (minus k x r) hr (minus-lt k x r)
+    (ap (λ n. n % 2 ^ k) (add-comm r (minus k x r)) ∙ plus-minus k x r hx hr)
