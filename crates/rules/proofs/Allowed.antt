@@ -1,13 +1,11 @@
 -- The share counts that calls take, case by case.
-use Prim.Native.Nat.{ℕ, _+_, _*_, _/_, _^_, _≤_, _<_}
+use Prim.Native.Nat.{ℕ, _^_, _≤_, _<_}
 use mathlib.Core.Path.{_≡_, refl, sym, subst, _∙_}
 use mathlib.Core.Bool.{Bool, true, false}
 use native.Mathlib.Omega.{arith}
 use lib.Dec.{eqb}
 use borrow.Author.Tests.{eqb-true, ne-eqb}
 use Rattle.rules.specs.Numbers.{largest, either, allowed}
-use Rattle.rules.specs.Counts.{toBoolDraws}
-use Rattle.rules.proofs.Conversion.{draws-more}
 
 pub data Count : ℕ → Type 0 where
   one : Count 1
@@ -49,24 +47,6 @@ power-of n h = go (counted n h)
     go two = (1, refl)
     go four = (2, refl)
     go eight = (3, refl)
-
--- a count above one, and its half; d n is what an addition draws
-pub record Halves (d : ℕ → ℕ) (n : ℕ) : Type 0 where
-  pub half : allowed (n / 2) ≡ true
-  pub even : n ≡ n / 2 * 2
-  pub room : n ≤ largest
-  pub more : 1 < n
-  pub draws : toBoolDraws d n ≡ 2 * toBoolDraws d (n / 2) + n + d n
-
-pub halves : (d : ℕ → ℕ) (n : ℕ) → allowed n ≡ true → (n ≡ 1 → ⊥) → Halves d n
-unfolding allowed
-halves d n h l = go (counted n h) l
-  where
-    go : {n : ℕ} → Count n → (n ≡ 1 → ⊥) → Halves d n
-    go one l = absurd (l refl)
-    go two l = record { half = refl; even = refl; room = omega arith; more = omega arith; draws = draws-more d 2 (omega arith) }
-    go four l = record { half = refl; even = refl; room = omega arith; more = omega arith; draws = draws-more d 4 (omega arith) }
-    go eight l = record { half = refl; even = refl; room = omega arith; more = omega arith; draws = draws-more d 8 (omega arith) }
 
 -- a number told for each count is the rule's at that count
 pub by-count : (d : ℕ → ℕ) (n r two′ four′ eight′ : ℕ) → d 1 ≡ 0 → d 2 ≡ two′ → d 4 ≡ four′ → d 8 ≡ eight′

@@ -138,6 +138,19 @@ draws-more d (suc n) h =
     let half = suc n / 2 in
     rw (lt-leb (suc n) 1 h, toBoolDrawsIn-enough d n half half (omega arith) (omega arith))
 
+-- ---- −A1, …, −A(n−1), 0
+abbrev pub negatives : ℕ → List ℕ → List ℕ
+negatives k A = map (minus k 0) A ++ (0 ∷ [])
+
+pub length-negatives : (k : ℕ) (A : List ℕ) → length (negatives k A) ≡ length A + 1
+length-negatives k A = simp (length-append, length-map)
+
+words-negatives : (k : ℕ) (A : List ℕ) → Words k (negatives k A)
+words-negatives k [] zero = pow-pos k
+words-negatives k [] (suc i) = pow-pos k
+words-negatives k (a ∷ A) zero = minus-lt k 0 a
+words-negatives k (a ∷ A) (suc i) = words-negatives k A i
+
 module _ (k : ℕ) (d : ℕ → ℕ) (adder : Adder) (adds : Adds k d adder) where
   -- ---- arithmetic to Boolean, of 2^p shares
   toBool-one-rule : (a : List ℕ) → length a ≡ 1 → Words k a
@@ -183,34 +196,21 @@ module _ (k : ℕ) (d : ℕ → ℕ) (adder : Adder) (adds : Adds k d adder) whe
   -- ---- Boolean to arithmetic
   module _ (e : ℕ → ℕ) (fresh : Refresh) (freshens : Refreshes e fresh)
       (p : ℕ) (x : List ℕ) (size : length x ≡ 2 ^ p) (hx : opened x < 2 ^ k) where
-    -- −A1, …, −A(n−1), 0
-    abbrev negatives : List ℕ → List ℕ
-    negatives A = map (minus k 0) A ++ (0 ∷ [])
-
-    length-negatives : (A : List ℕ) → length A ≡ length x - 1 → length (negatives A) ≡ length x
-    length-negatives A h = simp (length-append, length-map) (omega (arith, pow-pos p))
-
-    words-negatives : (A : List ℕ) → Words k (negatives A)
-    words-negatives [] zero = pow-pos k
-    words-negatives [] (suc i) = pow-pos k
-    words-negatives (a ∷ A) zero = minus-lt k 0 a
-    words-negatives (a ∷ A) (suc i) = words-negatives A i
-
     negatives-rule : (A : List ℕ) → length A ≡ length x - 1
         → Rule (toBoolDraws d (length x))
-        (Shares (length x) (openedSum k (negatives A)))
-        (toBool adder (negatives A))
+        (Shares (length x) (openedSum k (negatives k A)))
+        (toBool adder (negatives k A))
     negatives-rule A h =
-        let l = length-negatives A h in
+        let l : length (negatives k A) ≡ length x = length-negatives k A ∙ omega (arith, pow-pos p) in
         said
-        (toBool-rule p (negatives A) (l ∙ size) (words-negatives A))
+        (toBool-rule p (negatives k A) (l ∙ size) (words-negatives k A))
         (ap (toBoolDraws d) l)
         (λ z g. (g .0 ∙ l, g .1))
 
-    add-x : (A b : List ℕ) → Shares (length x) (openedSum k (negatives A)) b
-        → Rule (d (length x)) (Shares (length x) (plus k (opened x) (openedSum k (negatives A)))) (adder x b)
+    add-x : (A b : List ℕ) → Shares (length x) (openedSum k (negatives k A)) b
+        → Rule (d (length x)) (Shares (length x) (plus k (opened x) (openedSum k (negatives k A)))) (adder x b)
     add-x A b g =
-        said (adds (length x) x b refl (g .0) hx (rw (g .1) (mod-lt (total (negatives A)) (pow-pos k)))) refl
+        said (adds (length x) x b refl (g .0) hx (rw (g .1) (mod-lt (total (negatives k A)) (pow-pos k)))) refl
         (λ z h. (h .0, h .1 ∙ ap (plus k (opened x)) (g .1)))
 
     pub toArith-rule : Rule (toArithDraws d e (length x)) (λ z. length z ≡ length x) (toArith k adder fresh x)
@@ -226,12 +226,12 @@ module _ (k : ℕ) (d : ℕ → ℕ) (adder : Adder) (adds : Adds k d adder) whe
         (omega arith)
 
     -- a list and its negatives come to nothing
-    away : (A : List ℕ) → Words k A → (total A + total (negatives A)) % 2 ^ k ≡ 0
+    away : (A : List ℕ) → Words k A → (total A + total (negatives k A)) % 2 ^ k ≡ 0
     unfolding total plus
     away [] w = zero-mod (2 ^ k)
     away (a ∷ A) w =
         let s = minus k 0 a in
-        let t = total (negatives A) in
+        let t = total (negatives k A) in
         let order : a + total A + (s + t) ≡ s + a + (total A + t) = omega arith in
         ap (λ n. n % 2 ^ k) order
         ∙ add-mod (s + a) (total A + t) (2 ^ k)
@@ -254,15 +254,15 @@ module _ (k : ℕ) (d : ℕ → ℕ) (adder : Adder) (adds : Adds k d adder) whe
     abbrev last : List ℕ → ℕ → ℕ
     last ws at =
         let A = next (length x - 1) ws at in
-        let b = toBool adder (negatives (A .0)) ws (A .1) in
+        let b = toBool adder (negatives k (A .0)) ws (A .1) in
         let s = adder x (b .0) ws (b .1) in
         opened (fresh (s .0) ws (s .1) .0)
 
     last-is : (ws : List ℕ) (at : ℕ)
-        → last ws at ≡ plus k (opened x) (openedSum k (negatives (next (length x - 1) ws at .0)))
+        → last ws at ≡ plus k (opened x) (openedSum k (negatives k (next (length x - 1) ws at .0)))
     last-is ws at =
         let A = next (length x - 1) ws at in
-        let b = toBool adder (negatives (A .0)) ws (A .1) in
+        let b = toBool adder (negatives k (A .0)) ws (A .1) in
         let s = adder x (b .0) ws (b .1) in
         let ib = negatives-rule (A .0) (next-rule (length x - 1) .makes ws at) .makes ws (A .1) in
         let is = add-x (A .0) (b .0) ib .makes ws (b .1) in
@@ -274,14 +274,14 @@ module _ (k : ℕ) (d : ℕ → ℕ) (adder : Adder) (adds : Adds k d adder) whe
         let A = next (length x - 1) ws at .0 in
         let none = away A (words-next k ws hw (length x - 1) at) in
         ap (λ m. m % 2 ^ k) (total-append A (last ws at ∷ []))
-        ∙ rw (last-is ws at) (back (2 ^ k) (opened x) (total A) (total (negatives A)) hx none)
+        ∙ rw (last-is ws at) (back (2 ^ k) (opened x) (total A) (total (negatives k A)) hx none)
 
     words-toArith : (ws : List ℕ) (at : ℕ) → Words k ws → Words k (toArith k adder fresh x ws at .0)
     unfolding toArith
     words-toArith ws at hw =
         let A = next (length x - 1) ws at .0 in
         words-last k A (last ws at) (words-next k ws hw (length x - 1) at)
-        (rw (last-is ws at) (plus-lt k (opened x) (openedSum k (negatives A))))
+        (rw (last-is ws at) (plus-lt k (opened x) (openedSum k (negatives k A))))
 
     -- there and back, from Boolean shares
     pub there-and-back : (ws vs : List ℕ) (at from : ℕ) → Words k ws

@@ -1,217 +1,217 @@
 -- The rules as the code's loops walk them: what is left, run from here, gives what the whole gives. One law to a turn and one to the end.
-use Prim.Native.Nat.{ℕ, zero, suc, _+_, _-_, _*_, _/_, _≤_, _<_}
+use Prim.Native.Nat.{ℕ, zero, suc, _+_, _-_, _*_, _≤_, _<_}
 use mathlib.Core.Path.{_≡_, refl, sym, ap, _∙_}
 use mathlib.Core.List.{List, [], _∷_, _++_, map, append-assoc, append-nil}
-use native.Mathlib.Nat.{suc-mul, add-zero, sub-zero}
+use native.Mathlib.Nat.{add-zero, sub-zero, mul-le-mul-right}
 use native.Mathlib.Numerals.{add-one}
 use native.Mathlib.Omega.{arith}
-use lib.Bits.{bitXor}
-use lib.ListN.{length, getD, set, take, drop, replicate, length-append, length-drop, length-map, length-set, drop-of-length-le}
-use lib.Seq.{drop-cons, set-at, take-all}
-use Rattle.words.proofs.Stores.{take-sets, filled-next, filled-end}
+use lib.Bits.{bitXor, bitAnd}
+use lib.ListN.{length, getD, set, take, drop, length-map, length-set, drop-of-length-le}
+use lib.Seq.{drop-cons, take-all, length-take-le}
+use Rattle.words.proofs.Stores.{take-sets, filled-next, filled-end, set-last}
 use Rattle.words.specs.Word.{minus}
 use Rattle.rules.specs.Supply.{next, opened, split}
-use Rattle.rules.specs.Shares.{Step, each, pass, along, order, column, and, doubleXor, carries, add, expand}
-use Rattle.rules.specs.Convert.{Adder, Refresh, widen, halved, toBool, toArith}
-use Rattle.rules.specs.Counts.{andDraws, addDraws}
+use Rattle.rules.specs.Shares.{Step, each, pass, along, order, column, cross, and, doubleXor, carries, expand}
+use Rattle.rules.specs.Counts.{andDraws}
 use Rattle.rules.proofs.Openings.{length-each, each-at}
-use Rattle.rules.proofs.Pairs.{length-along, and-rule}
-use Rattle.rules.proofs.Rule.{pass-rule, next-rule}
-use Rattle.rules.proofs.Addition.{add-loop-rule, expand-rule}
-use Rattle.rules.proofs.Conversion.{toBool-more}
+use Rattle.rules.proofs.Rule.{next-rule}
+use Rattle.rules.proofs.Conversion.{negatives, length-negatives}
 
-abbrev Run : Type 0
+-- what a rule that draws makes, and the place after
+abbrev pub Run : Type 0
 Run = List ℕ × ℕ
 
--- ---- one draw for each pair
-module _ (step : Step) (ws z : List ℕ) (at : ℕ) (e : Run) where
-  pub column-next : (last m n i : ℕ) → m ≡ suc n → pass step (column last m i) z ws at ≡ e → pass step (column last n (i + 1)) (step i last (getD ws at 0) z) ws (at + 1) ≡ e
-  unfolding pass column
-  column-next last m n i h p = rw h at p
-
-  pub column-end : (last m i : ℕ) → m ≡ 0 → pass step (column last m i) z ws at ≡ e → e ≡ (z, at)
-  unfolding pass column
-  column-end last m i h p = sym (rw h at p)
-
-  pub along-next : (m n i j : ℕ) → m ≡ suc n → pass step (along m i j) z ws at ≡ e → pass step (along n i (j + 1)) (step i j (getD ws at 0) z) ws (at + 1) ≡ e
-  unfolding pass along
-  along-next m n i j h p = rw h at p
-
-  pub along-end : (m i j : ℕ) → m ≡ 0 → pass step (along m i j) z ws at ≡ e → e ≡ (z, at)
-  unfolding pass along
-  along-end m i j h p = sym (rw h at p)
-
-  pub order-end : (m i : ℕ) → m ≡ 0 → pass step (order m i) z ws at ≡ e → e ≡ (z, at)
-  unfolding pass order
-  order-end m i h p = sym (rw h at p)
-
-pass-place : (step : Step) (ps : List (ℕ × ℕ)) (z ws : List ℕ) (at : ℕ) → pass step ps z ws at .1 ≡ at + length ps
-pass-place step ps z ws at = pass-rule step (λ ps z. Unit {0}) (λ p ps s z u. tt) ps z tt .place ws at
-
-pub along-place : (step : Step) (z y ws : List ℕ) (m i j at p : ℕ) → pass step (along m i j) z ws at ≡ (y, p) → p ≡ at + m
-along-place step z y ws m i j at p e = sym (ap (λ (r : Run). r .1) e) ∙ pass-place step (along m i j) z ws at ∙ ap (λ n. at + n) (length-along m i j)
-
--- n shares have n − 1 pairs more than n − 1 shares
-pub andDraws-suc : (n m : ℕ) → n ≡ suc m → andDraws n ≡ m + andDraws m
-unfolding andDraws
-andDraws-suc n m e = rw e
-
-pass-append : (step : Step) (ps qs : List (ℕ × ℕ)) (z ws : List ℕ) (at : ℕ) → pass step (ps ++ qs) z ws at ≡ (let r = pass step ps z ws at in pass step qs (r .0) ws (r .1))
+pass-append : (step : Step) (ps qs : List (ℕ × ℕ)) (z ws : List ℕ) (at : ℕ)
+    → pass step (ps ++ qs) z ws at ≡ (let r = pass step ps z ws at in pass step qs (r .0) ws (r .1))
 unfolding pass
 pass-append step [] qs z ws at = refl
 pass-append step (p ∷ ps) qs z ws at = pass-append step ps qs (step (p .0) (p .1) (getD ws at 0) z) ws (at + 1)
 
+-- ---- one draw for each pair: s is the word drawn, q the place after it, y what the step makes of z
+module _ (step : Step) (ws z y : List ℕ) (at q s : ℕ) (e : Run) where
+  pub column-next : (last i : ℕ) → i < last → s ≡ getD ws at 0 → q ≡ at + 1 → y ≡ step i last s z
+      → pass step (column last (last - i) i) z ws at ≡ e → pass step (column last (last - (i + 1)) (i + 1)) y ws q ≡ e
+  unfolding pass column
+  column-next last i h f g j p =
+      let more : last - i ≡ suc (last - (i + 1)) = omega arith in
+      rw (j, f, g) (rw more at p)
+
+  pub along-next : (n i j : ℕ) → j < n → s ≡ getD ws at 0 → q ≡ at + 1 → y ≡ step i j s z
+      → pass step (along (n - j) i j) z ws at ≡ e → pass step (along (n - (j + 1)) i (j + 1)) y ws q ≡ e
+  unfolding pass along
+  along-next n i j h f g k p =
+      let more : n - j ≡ suc (n - (j + 1)) = omega arith in
+      rw (k, f, g) (rw more at p)
+
+-- all pairs in order, from the diagonal on
+pub order-begins : (x y z ws : List ℕ) (at : ℕ) → z ≡ each bitAnd x y
+    → pass (cross x y) (order (length x - 0) 0) z ws at ≡ and x y ws at
+unfolding and
+order-begins x y z ws at e = rw (sub-zero (length x), e)
+
 -- a row of the order, then the rest
-pub order-next : (step : Step) (ws z y : List ℕ) (at p m n i : ℕ) (e : Run) → m ≡ suc n → pass step (along n i (i + 1)) z ws at ≡ (y, p) → pass step (order m i) z ws at ≡ e
-    → pass step (order n (i + 1)) y ws p ≡ e
+pub order-next : (step : Step) (ws z y : List ℕ) (at p n i : ℕ) (e : Run) → i < n
+    → pass step (along (n - (i + 1)) i (i + 1)) z ws at ≡ (y, p) → pass step (order (n - i) i) z ws at ≡ e
+    → pass step (order (n - (i + 1)) (i + 1)) y ws p ≡ e
 unfolding order
-order-next step ws z y at p m n i e h row inv =
-    sym (ap (λ (r : Run). pass step (order n (i + 1)) (r .0) ws (r .1)) row) ∙ sym (pass-append step (along n i (i + 1)) (order n (i + 1)) z ws at) ∙ rw h at inv
+order-next step ws z y at p n i e h row inv =
+    let more : n - i ≡ suc (n - (i + 1)) = omega arith in
+    let m = n - (i + 1) in
+    sym (ap (λ (r : Run). pass step (order m (i + 1)) (r .0) ws (r .1)) row)
+    ∙ sym (pass-append step (along m i (i + 1)) (order m (i + 1)) z ws at)
+    ∙ rw more at inv
+
+module _ (step : Step) (ws z : List ℕ) (at : ℕ) (e : Run) where
+  pub column-end : (last i : ℕ) → last ≤ i → pass step (column last (last - i) i) z ws at ≡ e → e ≡ (z, at)
+  unfolding pass column
+  column-end last i h p = let none : last - i ≡ 0 = omega arith in sym (rw none at p)
+
+  pub along-end : (n i j : ℕ) → n ≤ j → pass step (along (n - j) i j) z ws at ≡ e → e ≡ (z, at)
+  unfolding pass along
+  along-end n i j h p = let none : n - j ≡ 0 = omega arith in sym (rw none at p)
+
+  pub order-end : (n i : ℕ) → n ≤ i → pass step (order (n - i) i) z ws at ≡ e → e ≡ (z, at)
+  unfolding pass order
+  order-end n i h p = let none : n - i ≡ 0 = omega arith in sym (rw none at p)
+
+-- ---- the words of the rows that are left: n shares have n − 1 pairs more than n − 1 shares
+module _ (n i p all : ℕ) where
+  rows-next : i < n → andDraws (n - i) ≡ n - (i + 1) + andDraws (n - (i + 1))
+  unfolding andDraws
+  rows-next h = let more : n - i ≡ suc (n - (i + 1)) = omega arith in rw more
+
+  pub rows-room : (l : ℕ) → i < n → p + andDraws (n - i) ≡ all → all ≤ l → p + (n - (i + 1)) ≤ l
+  rows-room l h e f = omega (arith, rows-next h)
+
+  pub rows-place : (q : ℕ) → i < n → q ≡ p + (n - (i + 1)) → p + andDraws (n - i) ≡ all → q + andDraws (n - (i + 1)) ≡ all
+  rows-place q h e f = omega (arith, rows-next h)
+
+  pub rows-end : n ≤ i → p + andDraws (n - i) ≡ all → p ≡ all
+  unfolding andDraws
+  rows-end h e = let none : n - i ≡ 0 = omega arith in omega (arith, rw none at e)
+
+-- ---- m parts of d words, of which i are drawn
+module _ (m i d at p : ℕ) where
+  pub parts-room : (l : ℕ) → i < m → p ≡ at + i * d → at + m * d ≤ l → p + d ≤ l
+  parts-room l h e f = omega (arith, mul-le-mul-right d h)
+
+  pub parts-end : m ≤ i → i ≤ m → p ≡ at + i * d → p ≡ at + m * d
+  parts-end h l e = let all : i ≡ m = omega arith in rw all at e
+
+-- as many words for as many shares
+pub and-room : (n m at l : ℕ) → n ≡ m → at + andDraws m ≤ l → at + andDraws n ≤ l
+and-room n m at l e h = rw e h
+
+pub and-place : (n m at p : ℕ) → n ≡ m → p ≡ at + andDraws n → p ≡ at + andDraws m
+and-place n m at p e h = rw (← e) h
 
 -- ---- expand: what stands in y so far, and what is left
-module _ (x ws : List ℕ) where
-  pub expand-next : (y done : List ℕ) (i at : ℕ) → i < length x → i * 2 + 2 ≤ length y → take (i * 2) y ++ expand (drop i x) ws at .0 ≡ done
-      → (let s = getD ws at 0 in take ((i + 1) * 2) (set (set y (i * 2) (bitXor (getD x i 0) s)) (i * 2 + 1) s) ++ expand (drop (i + 1) x) ws (at + 1) .0 ≡ done)
+module _ (x ws y : List ℕ) (i at : ℕ) (e : Run) where
+  pub expand-next : (q s : ℕ) → i < length x → length y ≡ length x * 2 → s ≡ getD ws at 0 → q ≡ at + 1
+      → (let rest = expand (drop i x) ws at in (take (i * 2) y ++ rest .0, rest .1) ≡ e)
+      → (let rest = expand (drop (i + 1) x) ws q in
+      (take ((i + 1) * 2) (set (set y (i * 2) (bitXor (getD x i 0) s)) (i * 2 + 1) s) ++ rest .0, rest .1) ≡ e)
   unfolding expand
-  expand-next y done i at h l p =
-      let s = getD ws at 0 in
-      let a = bitXor (getD x i 0) s in
-      let q : (i + 1) * 2 ≡ i * 2 + 2 = omega arith in
-      rw (q, add-one i, add-one (i * 2), take-sets y (a ∷ s ∷ []) (i * 2) l) (append-assoc (take (i * 2) y) (a ∷ s ∷ []) (expand (drop (suc i) x) ws (at + 1) .0) ∙ (rw (drop-cons x i 0 h) at p))
+  expand-next q s h l f g p =
+      let pair = bitXor (getD x i 0) s ∷ s ∷ [] in
+      let two : (i + 1) * 2 ≡ i * 2 + 2 = omega arith in
+      let rest = expand (drop (suc i) x) ws (at + 1) in
+      rw (g, two, add-one i, add-one (i * 2), take-sets y pair (i * 2) (omega arith), append-assoc (take (i * 2) y) pair (rest .0), f)
+      (rw (drop-cons x i 0 h) at p)
 
-  pub expand-place-next : (i at end : ℕ) → i < length x → expand (drop i x) ws at .1 ≡ end → expand (drop (i + 1) x) ws (at + 1) .1 ≡ end
+  pub expand-end : length x ≤ i → length y ≡ length x * 2
+      → (let rest = expand (drop i x) ws at in (take (i * 2) y ++ rest .0, rest .1) ≡ e) → e ≡ (y, at)
   unfolding expand
-  expand-place-next i at end h p = rw (add-one i) (rw (drop-cons x i 0 h) at p)
-
-  pub expand-end : (y : List ℕ) (i at : ℕ) (e : Run) → length x ≤ i → length y ≤ i * 2 → take (i * 2) y ++ expand (drop i x) ws at .0 ≡ e .0 → expand (drop i x) ws at .1 ≡ e .1 → e ≡ (y, at)
-  unfolding expand
-  expand-end y i at e h l p q =
-      let none = drop-of-length-le x {i = i} h in
-      let done : y ≡ e .0 = sym (append-nil y) ∙ ap (λ t. t ++ []) (sym (take-all (i * 2) y l)) ∙ rw none at p in
-      let place : at ≡ e .1 = rw none at q in
-      rw (done, place)
+  expand-end h l p =
+      sym (rw (drop-of-length-le x {i = i} h, append-nil (take (i * 2) y), take-all (i * 2) y (omega arith)) at p)
 
 -- ---- the rounds of the addition
 module _ (k : ℕ) (a w u ws : List ℕ) (at : ℕ) where
-  pub carries-next : (m n : ℕ) (v : List ℕ) (p : ℕ) (e : Run) → m ≡ suc n → carries k a w 1 u ws at ≡ (v, p) → carries k a w m u ws at ≡ e → carries k a w n v ws p ≡ e
+  pub carries-next : (m i : ℕ) (v : List ℕ) (p : ℕ) (e : Run) → i < m → carries k a w 1 u ws at ≡ (v, p)
+      → carries k a w (m - i) u ws at ≡ e → carries k a w (m - (i + 1)) v ws p ≡ e
   unfolding carries
-  carries-next m n v p e h one inv = sym (ap (λ (r : Run). carries k a w n (r .0) ws (r .1)) one) ∙ rw h at inv
+  carries-next m i v p e h one inv =
+      let more : m - i ≡ suc (m - (i + 1)) = omega arith in
+      sym (ap (λ (r : Run). carries k a w (m - (i + 1)) (r .0) ws (r .1)) one) ∙ rw more at inv
 
-  pub carries-end : (m : ℕ) (e : Run) → m ≡ 0 → carries k a w m u ws at ≡ e → e ≡ (u, at)
+  pub carries-end : (m i : ℕ) (e : Run) → m ≤ i → carries k a w (m - i) u ws at ≡ e → e ≡ (u, at)
   unfolding carries
-  carries-end m e h p = sym (rw h at p)
+  carries-end m i e h p = let none : m - i ≡ 0 = omega arith in sym (rw none at p)
 
   pub carries-one : (t v : List ℕ) (p : ℕ) → and u a ws at ≡ (t, p) → v ≡ each (doubleXor k) t w → carries k a w 1 u ws at ≡ (v, p)
   unfolding carries
   carries-one t v p e f = ap (λ (r : Run). (each (doubleXor k) (r .0) w, r .1)) e ∙ ap (λ l. (l, p)) (sym f)
 
-  pub carries-place : (v : List ℕ) (p : ℕ) → length a ≡ length u → carries k a w 1 u ws at ≡ (v, p) → p ≡ at + andDraws (length u)
-  unfolding carries
-  carries-place v p h e = sym (ap (λ (r : Run). r .1) e) ∙ and-rule (length u) u a refl h .place ws at
-
 -- ---- by shares, filled from the front
 module _ (f : ℕ → ℕ → ℕ) (x y z : List ℕ) (i : ℕ) (same : length y ≡ length x) (room : length z ≡ length x) where
-  pub each-next : i < length x → take i z ≡ take i (each f x y) → take (i + 1) (set z i (f (getD x i 0) (getD y i 0))) ≡ take (i + 1) (each f x y)
-  each-next h p = filled-next z (each f x y) i _ (omega arith) (room ∙ sym (length-each f x y same)) (sym (each-at f x y same i h)) p
+  pub each-next : i < length x → take i z ≡ take i (each f x y)
+      → take (i + 1) (set z i (f (getD x i 0) (getD y i 0))) ≡ take (i + 1) (each f x y)
+  each-next h p =
+      filled-next z (each f x y) i _ (omega arith) (room ∙ sym (length-each f x y same)) (sym (each-at f x y same i h)) p
 
   pub each-end : length x ≤ i → take i z ≡ take i (each f x y) → z ≡ each f x y
-  each-end h p = filled-end z (each f x y) i (omega (arith, length-each f x y same)) (room ∙ sym (length-each f x y same)) p
-
--- one of m parts of d words, and the rest
-pub times-suc : (m n d : ℕ) → m ≡ suc n → m * d ≡ d + n * d
-times-suc m n d e = rw (e, suc-mul n d) (omega arith)
-
--- ---- places after a rule, and rules made from their parts
-pub and-place : (x y ws z : List ℕ) (at p : ℕ) → length y ≡ length x → and x y ws at ≡ (z, p) → p ≡ at + andDraws (length x)
-and-place x y ws z at p h e = sym (ap (λ (r : Run). r .1) e) ∙ and-rule (length x) x y refl h .place ws at
-
-pub add-made : (k : ℕ) (x y ws w a u₀ u z : List ℕ) (at p q : ℕ) → and x y ws at ≡ (w, p) → a ≡ each bitXor x y → u₀ ≡ replicate (length x) 0
-    → carries k a w (k - 1) u₀ ws p ≡ (u, q) → z ≡ each bitXor a u → add k x y ws at ≡ (z, q)
-unfolding add
-add-made k x y ws w a u₀ u z at p q e f g h i =
-    ap (λ (r : Run). let u = carries k (each bitXor x y) (r .0) (k - 1) (replicate (length x) 0) ws (r .1) in (each bitXor (each bitXor x y) (u .0), u .1)) e
-    ∙ rw (← f, ← g, h, i)
+  each-end h p =
+      filled-end z (each f x y) i (omega (arith, length-each f x y same)) (room ∙ sym (length-each f x y same)) p
 
 -- ---- the next words, filled from the front
-module _ (ws : List ℕ) where
-  pub length-next : (m at : ℕ) → length (next m ws at .0) ≡ m
-  length-next m at = next-rule m .makes ws at
+next-at : (ws : List ℕ) (n at i : ℕ) → i < n → getD (next n ws at .0) i 0 ≡ getD ws (at + i) 0
+unfolding next
+next-at ws zero at i h = absurd (omega arith)
+next-at ws (suc n) at zero h = ap (λ m. getD ws m 0) (sym (add-zero at))
+next-at ws (suc n) at (suc i) h =
+    let q : at + 1 + i ≡ at + suc i = omega arith in
+    next-at ws n (at + 1) i (omega arith) ∙ ap (λ m. getD ws m 0) q
 
-  pub next-at : (m at i : ℕ) → i < m → getD (next m ws at .0) i 0 ≡ getD ws (at + i) 0
-  unfolding next
-  next-at zero at i h = absurd (omega arith)
-  next-at (suc m) at zero h = ap (λ n. getD ws n 0) (sym (add-zero at))
-  next-at (suc m) at (suc i) h = let q : at + 1 + i ≡ at + suc i = omega arith in next-at m (at + 1) i (omega arith) ∙ ap (λ n. getD ws n 0) q
+module _ (ws z : List ℕ) (n at i p : ℕ) (room : length z ≡ n) (place : p ≡ at + i) where
+  size : length z ≡ length (next n ws at .0)
+  size = room ∙ sym (next-rule n .makes ws at)
 
-  pub next-made : (m at p : ℕ) (z : List ℕ) → p ≡ at + m → z ≡ next m ws at .0 → next m ws at ≡ (z, p)
-  next-made m at p z e f = let q : next m ws at .1 ≡ p = next-rule m .place ws at ∙ sym e in rw (f, ← q)
+  pub next-next : (s : ℕ) → i < length z → s ≡ getD ws p 0 → take i z ≡ take i (next n ws at .0)
+      → take (i + 1) (set z i s) ≡ take (i + 1) (next n ws at .0)
+  next-next s h e f =
+      filled-next z (next n ws at .0) i s h size (e ∙ rw place (sym (next-at ws n at i (omega arith)))) f
+
+  pub next-end : i ≤ n → length z ≤ i → take i z ≡ take i (next n ws at .0) → next n ws at ≡ (z, p)
+  next-end l h f =
+      let all : next n ws at .1 ≡ p = next-rule n .place ws at ∙ omega arith in
+      rw (filled-end z (next n ws at .0) i (omega (arith, size)) size f, ← all)
 
 -- ---- the negatives of a list, and a zero
-negatives-at : (k : ℕ) (a : List ℕ) (i : ℕ) → i < length a → getD (map (minus k 0) a ++ (0 ∷ [])) i 0 ≡ minus k 0 (getD a i 0)
+negatives-at : (k : ℕ) (a : List ℕ) (i : ℕ) → i < length a → getD (negatives k a) i 0 ≡ minus k 0 (getD a i 0)
 negatives-at k [] i h = absurd (omega arith)
 negatives-at k (x ∷ a) zero h = refl
 negatives-at k (x ∷ a) (suc i) h = negatives-at k a i (omega arith)
 
-negatives-last : (k : ℕ) (a : List ℕ) → getD (map (minus k 0) a ++ (0 ∷ [])) (length a) 0 ≡ 0
+negatives-last : (k : ℕ) (a : List ℕ) → getD (negatives k a) (length a) 0 ≡ 0
 negatives-last k [] = refl
 negatives-last k (x ∷ a) = negatives-last k a
 
-length-negatives : (k : ℕ) (a : List ℕ) → length (map (minus k 0) a ++ (0 ∷ [])) ≡ length a + 1
-length-negatives k a = simp (length-append, length-map)
+module _ (k : ℕ) (a m : List ℕ) (i : ℕ) (room : length m ≡ length a + 1) where
+  same-size : length m ≡ length (negatives k a)
+  same-size = room ∙ sym (length-negatives k a)
 
-module _ (k : ℕ) (a m : List ℕ) (room : length m ≡ length a + 1) where
-  pub negatives-next : (i s : ℕ) → i < length a → s ≡ minus k 0 (getD a i 0) → take i m ≡ take i (map (minus k 0) a ++ (0 ∷ []))
-      → take (i + 1) (set m i s) ≡ take (i + 1) (map (minus k 0) a ++ (0 ∷ []))
-  negatives-next i s h e p = filled-next m _ i s (omega arith) (room ∙ sym (length-negatives k a)) (e ∙ sym (negatives-at k a i h)) p
+  pub negatives-next : (s : ℕ) → i < length a → s ≡ minus k 0 (getD a i 0) → take i m ≡ take i (negatives k a)
+      → take (i + 1) (set m i s) ≡ take (i + 1) (negatives k a)
+  negatives-next s h e p = filled-next m (negatives k a) i s (omega arith) same-size (e ∙ sym (negatives-at k a i h)) p
 
-  pub negatives-end : (i : ℕ) → i ≡ length a → take i m ≡ take i (map (minus k 0) a ++ (0 ∷ [])) → set m i 0 ≡ map (minus k 0) a ++ (0 ∷ [])
-  negatives-end i h p =
-      filled-end (set m i 0) _ (i + 1) (omega (arith, length-negatives k a)) (length-set m i 0 ∙ room ∙ sym (length-negatives k a))
-      (filled-next m _ i 0 (omega arith) (room ∙ sym (length-negatives k a)) (sym (rw (← h) at (negatives-last k a))) p)
+  pub negatives-end : i ≤ length a → length a ≤ i → take i m ≡ take i (negatives k a) → set m i 0 ≡ negatives k a
+  negatives-end l h p =
+      let all : length a ≡ i = omega arith in
+      let zero : 0 ≡ getD (negatives k a) i 0 = sym (rw all at (negatives-last k a)) in
+      filled-end (set m i 0) (negatives k a) (i + 1) (omega (arith, same-size)) (length-set m i 0 ∙ same-size)
+      (filled-next m (negatives k a) i 0 (omega arith) same-size zero p)
 
--- ---- splitting, from the masks that were drawn into the front
-pub split-made : (n value q last at p mask : ℕ) (ws m rest : List ℕ) → q ≡ n - 1 → last ≡ q → length rest ≡ 1 → next q ws at ≡ (m, p) → mask ≡ opened m
-    → split n value ws at ≡ (set (m ++ rest) last (bitXor value mask), p)
+-- ---- splitting, from the masks that were drawn into the front of the shares s
+pub split-made : (value at p mask : ℕ) (s ws m : List ℕ)
+    → (let last = length s - 1 in
+    0 < length s → next (length (take (last - 0) s)) ws at ≡ (m, p) → mask ≡ opened m
+    → split (length s) value ws at ≡ (set (m ++ drop (last - 0) s) last (bitXor value mask), p))
 unfolding split
-split-made n value q last at p mask ws m [] e f h g o = absurd (omega arith)
-split-made n value q last at p mask ws m (x ∷ y ∷ rest) e f h g o = absurd (omega arith)
-split-made n value q last at p mask ws m (x ∷ []) e f h g o =
-    let size : length m ≡ last = sym (ap (λ (r : Run). length (r .0)) g) ∙ length-next ws q at ∙ sym f in
-    rw (← e, g, set-at m x [] (bitXor value mask) last size, o)
-
--- ---- places after expand and addition
-pub expand-place : (x ws y : List ℕ) (at p : ℕ) → expand x ws at ≡ (y, p) → p ≡ at + length x
-expand-place x ws y at p e = sym (ap (λ (r : Run). r .1) e) ∙ expand-rule (length x) x refl .place ws at
-
-pub add-place : (k : ℕ) (x y ws z : List ℕ) (at p : ℕ) → 0 < k → length y ≡ length x → add k x y ws at ≡ (z, p) → p ≡ at + addDraws k (length x)
-add-place k x y ws z at p hk h e = sym (ap (λ (r : Run). r .1) e) ∙ add-loop-rule k (length x) x y hk refl h .place ws at
-
--- ---- arithmetic to Boolean, from its halves; a part of a slice is `take (e - h) (drop h a)`
-pub toBool-made : (adder : Adder) (a ws l x r y z : List ℕ) (at p q s t e : ℕ) → 1 < length a
-    → (let h = length a / 2 in
-    toBool adder (take (h - 0) a) ws at ≡ (l, p) → expand l ws p ≡ (x, q) → toBool adder (take (length a - h) (drop h a)) ws q ≡ (r, s) → expand r ws s ≡ (y, t) → adder x y ws t ≡ (z, e)
-    → toBool adder a ws at ≡ (z, e))
-unfolding halved widen
-toBool-made adder a ws l x r y z at p q s t e h f g i j k =
-    let m = length a / 2 in
-    let left : toBool adder (take m a) ws at ≡ (l, p) = rw (sub-zero m) at f in
-    let right : toBool adder (drop m a) ws q ≡ (r, s) = rw (take-all (length a - m) (drop m a) (omega (arith, length-drop m a))) at i in
-    toBool-more adder a ws at h ∙ rw (left, g, right, j, k)
-
--- ---- Boolean to arithmetic, from what was drawn into the front
-pub next-place : (m at p : ℕ) (ws z : List ℕ) → next m ws at ≡ (z, p) → p ≡ at + m
-next-place m at p ws z e = sym (ap (λ (r : Run). r .1) e) ∙ next-rule m .place ws at
-
-pub toArith-made : (k : ℕ) (adder : Adder) (fresh : Refresh) (m last at p q r e word : ℕ) (x ws A rest negative b s y : List ℕ)
-    → m ≡ length x - 1 → last ≡ m → length rest ≡ 1 → next m ws at ≡ (A, p) → negative ≡ map (minus k 0) A ++ (0 ∷ [])
-    → toBool adder negative ws p ≡ (b, q) → adder x b ws q ≡ (s, r) → fresh s ws r ≡ (y, e) → word ≡ opened y
-    → toArith k adder fresh x ws at ≡ (set (A ++ rest) last word, e)
-unfolding toArith
-toArith-made k adder fresh m last at p q r e word x ws A [] negative b s y f g h i n j l o w = absurd (omega arith)
-toArith-made k adder fresh m last at p q r e word x ws A (a ∷ a′ ∷ rest) negative b s y f g h i n j l o w = absurd (omega arith)
-toArith-made k adder fresh m last at p q r e word x ws A (a ∷ []) negative b s y f g h i n j l o w =
-    let size : length A ≡ last = sym (ap (λ (t : Run). length (t .0)) i) ∙ length-next ws m at ∙ sym g in
-    rw (← f, i, ← n, j, l, o, set-at A a [] word last size, w)
+split-made value at p mask s ws m h e f =
+    let last = length s - 1 in
+    let drawn : next last ws at ≡ (m, p) = rw (sub-zero last, length-take-le last s (omega arith)) at e in
+    let front : length m ≡ last = sym (ap (λ (r : Run). length (r .0)) drawn) ∙ next-rule last .makes ws at in
+    rw (sub-zero last, drawn, f, set-last m s (bitXor value (opened m)) last front (omega arith))
 
 -- ---- the array of a chain record that is handed over, as the checker knows it
 pub chain-length : (a : List ℕ) → length (map (λ (v : ℕ). v) a) ≡ 40 → length a ≡ 40

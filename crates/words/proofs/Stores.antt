@@ -7,7 +7,7 @@ use native.Mathlib.Numerals.{add-one}
 use native.Mathlib.Omega.{arith}
 use lib.ListN.{length, getD, take, drop, set, replicate}
 use lib.ListN.{length-append, length-replicate, replicate-append-replicate, drop-of-length-le}
-use lib.Seq.{sets, sets-eq, drop-cons, take-at, take-all, take-suc, take-suc-set, length-take-le}
+use lib.Seq.{sets, sets-eq, set-at, drop-cons, take-at, take-all, take-suc, take-suc-set, length-take-le}
 
 -- one store more, of what is still to be stored
 pub sets-next : (l s e : List ℕ) (at i : ℕ) → i < length s
@@ -41,6 +41,13 @@ filled-next z l i a h e f p =
 
 pub filled-end : (z l : List ℕ) (i : ℕ) → length l ≤ i → length z ≡ length l → take i z ≡ take i l → z ≡ l
 filled-end z l i h e p = sym (take-all i z (omega arith)) ∙ p ∙ take-all i l h
+
+-- ---- a front m was put into s, all but its last entry; then v is stored there
+pub set-last : (m s : List ℕ) (v last : ℕ) → length m ≡ last → length s ≡ suc last
+    → set (m ++ drop last s) last v ≡ m ++ (v ∷ [])
+set-last m s v last e f =
+    let one : drop (suc last) s ≡ [] = drop-of-length-le s {i = suc last} (omega arith) in
+    rw (drop-cons s last 0 (omega arith), one, set-at m (getD s last 0) [] v last e)
 
 -- ---- the first n of m zeros, lent
 module _ (m n : ℕ) (room : n ≤ m) where

@@ -20,12 +20,10 @@ loop-holds : tie.Need-loop-holds Inv-loop μ-loop
 loop-holds c = (search needs, c .pre .1, refl)
 
 loop-again : tie.Need-loop-again Inv-loop μ-loop
-loop-again c =
-    let l = c .before .before .before .loop in
-    (search needs, search needs, each-next bitXor _ _ (l .z) (l .i) (c .before .before .before .before .pre .0) (l .inv .1) (omega arith) (l .inv .2))
+loop-again c = (search needs, search needs, search (each-next bitXor))
 
 returns : tie.Need-returns Inv-loop μ-loop
-returns c = let l = c .before .loop in each-end bitXor _ _ _ (l .i) (c .before .before .pre .0) (l .inv .1) (c .loop-test .left) (l .inv .2)
+returns c = search (each-end bitXor)
 
 pub xor-each-spec : {M : Type 1} → statement M
 xor-each-spec =

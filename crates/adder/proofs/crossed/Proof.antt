@@ -1,7 +1,7 @@
 -- `held` hands back the value itself, so the order of terms is all that is said
 use borrow.Author.Needs.{needs}
-use Rattle.shares.proofs.crossed.Statement.{statement}
-use Rattle.shares.proofs.crossed.Tie as tie
+use Rattle.adder.proofs.crossed.Statement.{statement}
+use Rattle.adder.proofs.crossed.Tie as tie
 
 returns : tie.Need-returns
 returns c = rw (c .held2 .ensures, c .before .held .ensures)

@@ -1,7 +1,7 @@
 -- the two shares stored are those of the rule's step
 use borrow.Author.Needs.{needs}
-use Rattle.shares.proofs.cross_at.Statement.{statement}
-use Rattle.shares.proofs.cross_at.Tie as tie
+use Rattle.adder.proofs.cross_at.Statement.{statement}
+use Rattle.adder.proofs.cross_at.Tie as tie
 
 returns : tie.Need-returns
 returns c = rw (c .crossed .ensures)

@@ -1,18 +1,18 @@
 -- from pair (i, j) on, what is left of the row gives what the whole row gives
 use borrow.Author.Needs.{needs}
-use native.Mathlib.Omega.{arith}
 use Prim.Native.Nat.{_+_, _-_, _≤_}
 use mathlib.Core.Path.{_≡_, refl}
 use lib.ListN.{length}
 use Rattle.rules.specs.Shares.{pass, along, cross}
 use Rattle.rules.proofs.Loops.{along-next, along-end}
-use Rattle.shares.proofs.and_row.Statement.{statement}
-use Rattle.shares.proofs.and_row.Tie as tie
+use Rattle.adder.proofs.and_row.Statement.{statement}
+use Rattle.adder.proofs.and_row.Tie as tie
 
 abbrev Inv-loop : tie.InvT-loop
 Inv-loop i x y z₀ words at p₀ j₀ z p j =
-    (j ≤ length x) × (length z ≡ length x) × (p + (length x - j) ≤ length words)
-    × (pass (cross x y) (along (length x - j) i j) z words p ≡ pass (cross x y) (along (length x - (i + 1)) i (i + 1)) z₀ words at)
+    let row = length x - (i + 1) in
+    (j ≤ length x) × (length z ≡ length x) × (p + (length x - j) ≡ at + row)
+    × (pass (cross x y) (along (length x - j) i j) z words p ≡ pass (cross x y) (along row i (i + 1)) z₀ words at)
 
 abbrev μ-loop : tie.MeasureT-loop
 μ-loop i x y z₀ words at p₀ j₀ z p j = length x - j
@@ -21,20 +21,10 @@ loop-holds : tie.Need-loop-holds Inv-loop μ-loop
 loop-holds c = (search needs, search needs, search needs, refl)
 
 loop-again : tie.Need-loop-again Inv-loop μ-loop
-loop-again c =
-    let l = c .before .before .before .before .before .before .loop in
-    let z = c .before .before .cross-at in
-    let s = c .before .before .before .before .draw-at in
-    let a = c .before .before .before .before .before .before .before .before .before .before .before .args in
-    let n = length (a .x .now) in (
-      search needs,
-      search needs,
-      search needs,
-      rw (z .ensures, s .ensures .0, s .ensures .1) (along-next _ _ _ (l .p) _ (n - l .j) (n - (l .j + 1)) (a .i) (l .j) (omega arith) (l .inv .3)),
-    )
+loop-again c = (search needs, search needs, search needs, search along-next)
 
 returns : tie.Need-returns Inv-loop μ-loop
-returns c = let l = c .before .loop in along-end _ _ _ _ _ _ _ (l .j) (omega arith) (l .inv .3)
+returns c = (search along-end, search needs)
 
 pub and-row-spec : {M : Type 1} → statement M
 and-row-spec =

@@ -7,8 +7,8 @@ use lib.ListN.{length, take}
 use lib.Bits.{bitAnd}
 use Rattle.rules.specs.Shares.{each}
 use Rattle.rules.proofs.Loops.{each-next, each-end}
-use Rattle.shares.proofs.and_each.Statement.{statement}
-use Rattle.shares.proofs.and_each.Tie as tie
+use Rattle.adder.proofs.and_each.Statement.{statement}
+use Rattle.adder.proofs.and_each.Tie as tie
 
 abbrev Inv-loop : tie.InvT-loop
 Inv-loop x y z₀ i₀ z i = (i ≤ length x) × (length z ≡ length x) × (take i z ≡ take i (each bitAnd x y))
@@ -20,12 +20,10 @@ loop-holds : tie.Need-loop-holds Inv-loop μ-loop
 loop-holds c = (search needs, c .pre .1, refl)
 
 loop-again : tie.Need-loop-again Inv-loop μ-loop
-loop-again c =
-    let l = c .before .before .before .loop in
-    (search needs, search needs, each-next bitAnd _ _ (l .z) (l .i) (c .before .before .before .before .pre .0) (l .inv .1) (omega arith) (l .inv .2))
+loop-again c = (search needs, search needs, search (each-next bitAnd))
 
 returns : tie.Need-returns Inv-loop μ-loop
-returns c = let l = c .before .loop in each-end bitAnd _ _ _ (l .i) (c .before .before .pre .0) (l .inv .1) (c .loop-test .left) (l .inv .2)
+returns c = search (each-end bitAnd)
 
 pub and-each-spec : {M : Type 1} → statement M
 and-each-spec =

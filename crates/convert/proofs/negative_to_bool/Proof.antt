@@ -1,0 +1,25 @@
+-- the negatives, then their conversion
+use borrow.Author.Needs.{needs}
+use native.Mathlib.Omega.{arith}
+use Rattle.convert.proofs.Parts.{few, negative-made}
+use Rattle.convert.proofs.negative_to_bool.Statement.{statement}
+use Rattle.convert.proofs.negative_to_bool.Tie as tie
+
+part-m0-end : tie.Need-part-m0-end
+part-m0-end c = omega (arith, few)
+
+returns : tie.Need-returns
+returns c = (search negative-made, search needs)
+
+pub negative-to-bool-spec : {M : Type 1} → statement M
+negative-to-bool-spec =
+    tie.close
+    (tie.spec
+    (λ c. search needs)
+    (λ c. search needs)
+    part-m0-end
+    (λ c κs. search needs)
+    (λ c κs. search needs)
+    (λ c. search needs)
+    returns
+    )
