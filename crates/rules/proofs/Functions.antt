@@ -13,7 +13,7 @@ use Rattle.words.specs.Word.{shift}
 use Rattle.words.proofs.Bits.{bits, v, _⊕_, _⊗_}
 use Rattle.words.proofs.Words.{shift-xor, shift-zero, shift-lt}
 use Rattle.rules.specs.Supply.{Rule, Shares, opened}
-use Rattle.rules.specs.Shares.{each, and}
+use Rattle.rules.specs.Shares.{each}
 use Rattle.rules.specs.Counts.{andDraws, quarterAnds}
 use Rattle.rules.specs.Standard.{ROTL, complement, Ch, Parity, Maj, f}
 use Rattle.rules.specs.Sha1.{rotl, rotated, blended, chosen}

@@ -1,5 +1,4 @@
 -- the turn is the rule's, and so is what is stored of it
-use mathlib.Core.Path.{_≡_}
 use borrow.Author.Needs.{needs}
 use Rattle.goubin.proofs.a2b_turn.Statement.{statement}
 use Rattle.goubin.proofs.a2b_turn.Tie as tie
