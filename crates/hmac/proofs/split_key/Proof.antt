@@ -41,7 +41,7 @@ loop-again c =
     let a = c .before .before .before .before .before .before .before .before .before .before .args in
     let size = part-length (a .n) (l .w) (l .shares) (omega arith) (l .inv .1) in
     let k = c .before .before .split-at in
-    let made = rw size at (k .ensures) in (
+    let made = rw size at (k .ensures .0) in (
       search needs,
       search needs,
       parts-next (l .w) (a .n - 1) _ _ (l .inv .2) _ (split-place (a .n) _ _ _ _ _ made),
