@@ -37,13 +37,6 @@ halved-count n h l = go (counted n h) l
     go four l = record { half = refl; even = refl; more = l; room = omega arith; draws = draws-more (addDraws bits) 4 l }
     go eight l = record { half = refl; even = refl; more = l; room = omega arith; draws = draws-more (addDraws bits) 8 l }
 
--- as many words for as many shares
-pub add-room : (n m at l : ℕ) → n ≡ m → at + addDraws bits m ≤ l → at + addDraws bits n ≤ l
-add-room n m at l e h = rw e h
-
-pub add-place : (n m at p : ℕ) → n ≡ m → p ≡ at + addDraws bits n → p ≡ at + addDraws bits m
-add-place n m at p e h = rw (← e) h
-
 -- ---- arithmetic to Boolean
 module _ (adder : Adder) (ws : List ℕ) (at : ℕ) where
   pub widened-made : (half b x : List ℕ) (p q : ℕ) → toBool adder half ws at ≡ (b, p) → expand b ws p ≡ (x, q)

@@ -182,7 +182,7 @@ pub extern "C" fn flamivorse_and(
     if number != DONE {
         return refusal(number);
     }
-    done(shares::and_at(x, y, z, words, 0))
+    done(adder::and_at(x, y, z, words, 0))
 }
 
 // Shares z of x + y modulo 2^32.
@@ -207,7 +207,7 @@ pub extern "C" fn flamivorse_add(
     if number != DONE {
         return refusal(number);
     }
-    done(shares::add_at(x, y, z, words, 0))
+    done(adder::add_at(x, y, z, words, 0))
 }
 
 // Boolean shares x of what the arithmetic shares a add up to.

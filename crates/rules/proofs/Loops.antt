@@ -2,7 +2,7 @@
 use Prim.Native.Nat.{ℕ, zero, suc, _+_, _-_, _*_, _≤_, _<_}
 use mathlib.Core.Path.{_≡_, refl, sym, ap, _∙_}
 use mathlib.Core.List.{List, [], _∷_, _++_, map, append-assoc, append-nil}
-use native.Mathlib.Nat.{add-zero, sub-zero, mul-le-mul-right}
+use native.Mathlib.Nat.{suc-mul, add-zero, sub-zero, mul-le-mul-right}
 use native.Mathlib.Numerals.{add-one}
 use native.Mathlib.Omega.{arith}
 use lib.Bits.{bitXor, bitAnd}
@@ -12,7 +12,7 @@ use Rattle.words.proofs.Stores.{take-sets, filled-next, filled-end, set-last}
 use Rattle.words.specs.Word.{minus}
 use Rattle.rules.specs.Supply.{next, opened, split}
 use Rattle.rules.specs.Shares.{Step, each, pass, along, order, column, cross, and, doubleXor, carries, expand}
-use Rattle.rules.specs.Counts.{andDraws}
+use Rattle.rules.specs.Counts.{andDraws, addDraws}
 use Rattle.rules.proofs.Openings.{length-each, each-at}
 use Rattle.rules.proofs.Rule.{next-rule}
 use Rattle.rules.proofs.Conversion.{negatives, length-negatives}
@@ -98,12 +98,23 @@ module _ (m i d at p : ℕ) where
   pub parts-end : m ≤ i → i ≤ m → p ≡ at + i * d → p ≡ at + m * d
   parts-end h l e = let all : i ≡ m = omega arith in rw all at e
 
--- as many words for as many shares
-pub and-room : (n m at l : ℕ) → n ≡ m → at + andDraws m ≤ l → at + andDraws n ≤ l
-and-room n m at l e h = rw e h
+-- one of m parts of d words, and the rest
+pub times-suc : (m n d : ℕ) → m ≡ suc n → m * d ≡ d + n * d
+times-suc m n d e = rw (e, suc-mul n d) (omega arith)
 
-pub and-place : (n m at p : ℕ) → n ≡ m → p ≡ at + andDraws n → p ≡ at + andDraws m
-and-place n m at p e h = rw (← e) h
+-- ---- as many words for as many shares
+module _ (n m at : ℕ) (same : n ≡ m) where
+  pub and-room : (l : ℕ) → at + andDraws m ≤ l → at + andDraws n ≤ l
+  and-room l h = rw same h
+
+  pub and-place : (p : ℕ) → p ≡ at + andDraws n → p ≡ at + andDraws m
+  and-place p h = rw (← same) h
+
+  pub add-room : (k l : ℕ) → at + addDraws k m ≤ l → at + addDraws k n ≤ l
+  add-room k l h = rw same h
+
+  pub add-place : (k p : ℕ) → p ≡ at + addDraws k n → p ≡ at + addDraws k m
+  add-place k p h = rw (← same) h
 
 -- ---- expand: what stands in y so far, and what is left
 module _ (x ws y : List ℕ) (i at : ℕ) (e : Run) where

@@ -85,7 +85,7 @@ fn blend(
 {
     let mut y0 = [0u32; 8];
     let y = &mut y0[0..n];
-    let p = shares::and_at(u, v, y, words, at);
+    let p = adder::and_at(u, v, y, words, at);
     shares::xor_each(d, y, f);
     p
 }
@@ -191,7 +191,7 @@ fn add_in(n: usize, x: &mut [u32], y: &[u32], words: &[u32], at: usize) -> usize
 {
     let mut z0 = [0u32; 8];
     let z = &mut z0[0..n];
-    let p = shares::add_at(x, y, z, words, at);
+    let p = adder::add_at(x, y, z, words, at);
     shares::copy(z, x);
     p
 }

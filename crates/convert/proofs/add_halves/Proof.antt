@@ -1,6 +1,6 @@
 -- one addition, its words counted by n
 use borrow.Author.Needs.{needs}
-use Rattle.convert.proofs.Parts.{add-room, add-place}
+use Rattle.rules.proofs.Loops.{add-room, add-place}
 use Rattle.convert.proofs.add_halves.Statement.{statement}
 use Rattle.convert.proofs.add_halves.Tie as tie
 

@@ -30,7 +30,7 @@ add-at-requires c κs =
 
 returns-2 : tie.Need-returns-2
 unfolding first
-returns-2 c = let a = c .before .before .before .before .before .before .before .before .before .before .before .before .before .args in done (a .n) (both (eqb (length (a .x .now)) (a .n)) (eqb (length (a .y .now)) (a .n))) (eqb (length (a .z .now)) (a .n)) true _ (add 32 (a .x .now) (a .y .now)) _ (a .words .now) _ _ (rw (c .before .before .before .before .before .before .before .before .both-fit .ensures) at (c .before .before .before .before .before .before .first-number .ensures)) (λ ok x y z. (let e = both-true (eqb (length (a .x .now)) (a .n)) (eqb (length (a .y .now)) (a .n)) x in add-draws (a .n) (a .words .now) 32 (a .x .now) (a .y .now) (omega arith) (e .0) (e .1)) ∙ c .before .before .before .before .before .before .before .add-draws .ensures ok) (c .before .before .before .before .before .if1 .left) _ _ (c .before .before .before .add-at .ensures) (c .done .ensures)
+returns-2 c = let a = c .before .before .before .before .before .before .before .before .before .before .before .before .before .args in done (a .n) (both (eqb (length (a .x .now)) (a .n)) (eqb (length (a .y .now)) (a .n))) (eqb (length (a .z .now)) (a .n)) true _ (add 32 (a .x .now) (a .y .now)) _ (a .words .now) _ _ (rw (c .before .before .before .before .before .before .before .before .both-fit .ensures) at (c .before .before .before .before .before .before .first-number .ensures)) (λ ok x y z. (let e = both-true (eqb (length (a .x .now)) (a .n)) (eqb (length (a .y .now)) (a .n)) x in add-draws (a .n) (a .words .now) 32 (a .x .now) (a .y .now) (omega arith) (e .0) (e .1)) ∙ c .before .before .before .before .before .before .before .add-draws .ensures ok) (c .before .before .before .before .before .if1 .left) _ _ (c .before .before .before .add-at .ensures .0) (c .done .ensures)
 
 pub flamivorse-add-spec : {M : Type 1} → statement M
 flamivorse-add-spec = tie.close (tie.spec (λ c κs. search needs) (λ c κs. search needs) (λ c κs. search needs) (λ c κs. search needs) returns add-at-requires (λ c κs. search needs) (λ c. search needs) returns-2)

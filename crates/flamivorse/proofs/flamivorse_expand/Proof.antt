@@ -29,7 +29,7 @@ expand-at-requires c κs =
 
 returns-2 : tie.Need-returns-2
 unfolding first
-returns-2 c = let a = c .before .before .before .before .before .before .before .before .before .before .before .args in done (a .n) (eqb (length (a .x .now)) (a .n)) (eqb (length (a .y .now)) (2 * a .n)) true _ (expand (a .x .now)) _ (a .words .now) _ _ (rw (c .before .before .before .before .before .before .before .is-times .ensures) at (c .before .before .before .before .before .before .first-number .ensures)) (λ ok x y z. expand-draws (a .n) (a .words .now) (a .x .now) x) (c .before .before .before .before .before .if1 .left) _ _ (c .before .before .before .expand-at .ensures) (c .done .ensures)
+returns-2 c = let a = c .before .before .before .before .before .before .before .before .before .before .before .args in done (a .n) (eqb (length (a .x .now)) (a .n)) (eqb (length (a .y .now)) (2 * a .n)) true _ (expand (a .x .now)) _ (a .words .now) _ _ (rw (c .before .before .before .before .before .before .before .is-times .ensures) at (c .before .before .before .before .before .before .first-number .ensures)) (λ ok x y z. expand-draws (a .n) (a .words .now) (a .x .now) x) (c .before .before .before .before .before .if1 .left) _ _ (c .before .before .before .expand-at .ensures .0) (c .done .ensures)
 
 pub flamivorse-expand-spec : {M : Type 1} → statement M
 flamivorse-expand-spec = tie.close (tie.spec (λ c κs. search needs) (λ c κs. search needs) (λ c κs. search needs) returns expand-at-requires (λ c κs. search needs) (λ c. search needs) returns-2)

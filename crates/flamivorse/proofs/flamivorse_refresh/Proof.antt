@@ -36,7 +36,7 @@ refresh-at-requires c κs =
 
 returns-2 : tie.Need-returns-2
 unfolding first
-returns-2 c = let a = c .before .before .before .before .before .before .before .before .before .before .before .before .before .before .before .args in done (a .n) (eqb (length (a .x .now)) (a .n)) (eqb (length (a .y .now)) (a .n)) true _ (refresh (a .x .now)) _ (a .words .now) _ _ (c .before .before .before .before .before .before .before .before .before .before .first-number .ensures) (λ ok x y z. refresh-draws (a .n) (a .words .now) (a .x .now) x ∙ c .before .before .before .before .before .before .before .before .before .before .before .refresh-draws .ensures ok) (c .before .before .before .before .before .before .before .before .before .if1 .left) _ _ (sym (ap (λ l. refresh l (a .words .now) 0) (c .before .before .before .before .before .before .before .copy .ensures)) ∙ c .before .before .before .refresh-at .ensures) (c .done .ensures)
+returns-2 c = let a = c .before .before .before .before .before .before .before .before .before .before .before .before .before .before .before .args in done (a .n) (eqb (length (a .x .now)) (a .n)) (eqb (length (a .y .now)) (a .n)) true _ (refresh (a .x .now)) _ (a .words .now) _ _ (c .before .before .before .before .before .before .before .before .before .before .first-number .ensures) (λ ok x y z. refresh-draws (a .n) (a .words .now) (a .x .now) x ∙ c .before .before .before .before .before .before .before .before .before .before .before .refresh-draws .ensures ok) (c .before .before .before .before .before .before .before .before .before .if1 .left) _ _ (sym (ap (λ l. refresh l (a .words .now) 0) (c .before .before .before .before .before .before .before .copy .ensures)) ∙ c .before .before .before .refresh-at .ensures .0) (c .done .ensures)
 
 pub flamivorse-refresh-spec : {M : Type 1} → statement M
 flamivorse-refresh-spec = tie.close (tie.spec (λ c κs. search needs) (λ c κs. search needs) (λ c κs. search needs) returns copy-requires refresh-at-requires (λ c κs. search needs) (λ c. search needs) returns-2)

@@ -26,7 +26,7 @@ split-at-requires c κs =
 
 returns-2 : tie.Need-returns-2
 unfolding first
-returns-2 c = let a = c .before .before .before .before .before .before .before .before .before .before .args in done (a .n) true (eqb (length (a .shares .now)) (a .n)) true _ (split (a .n) (a .value)) _ (a .words .now) _ _ (c .before .before .before .before .before .before .first-number .ensures) (λ ok x y z. split-draws (a .n) (a .words .now) (a .value) ok ∙ c .before .before .before .before .before .before .before .refresh-draws .ensures ok) (c .before .before .before .before .before .if1 .left) _ _ (rw (eqb-true (length (a .shares .now)) (a .n) (passed (a .n) true (eqb (length (a .shares .now)) (a .n)) true (c .before .before .before .before .before .before .before .refresh-draws .result) (length (a .words .now)) _ (c .before .before .before .before .before .before .first-number .ensures) (c .before .before .before .before .before .if1 .left) .output)) at (c .before .before .before .split-at .ensures)) (c .done .ensures)
+returns-2 c = let a = c .before .before .before .before .before .before .before .before .before .before .args in done (a .n) true (eqb (length (a .shares .now)) (a .n)) true _ (split (a .n) (a .value)) _ (a .words .now) _ _ (c .before .before .before .before .before .before .first-number .ensures) (λ ok x y z. split-draws (a .n) (a .words .now) (a .value) ok ∙ c .before .before .before .before .before .before .before .refresh-draws .ensures ok) (c .before .before .before .before .before .if1 .left) _ _ (rw (eqb-true (length (a .shares .now)) (a .n) (passed (a .n) true (eqb (length (a .shares .now)) (a .n)) true (c .before .before .before .before .before .before .before .refresh-draws .result) (length (a .words .now)) _ (c .before .before .before .before .before .before .first-number .ensures) (c .before .before .before .before .before .if1 .left) .output)) at (c .before .before .before .split-at .ensures .0)) (c .done .ensures)
 
 pub flamivorse-split-spec : {M : Type 1} → statement M
 flamivorse-split-spec = tie.close (tie.spec (λ c κs. search needs) (λ c κs. search needs) (λ c κs. search needs) returns split-at-requires (λ c κs. search needs) (λ c. search needs) returns-2)

@@ -1,16 +1,14 @@
 -- the sum goes back into x by a copy
 use borrow.Author.Needs.{needs}
-use native.Mathlib.Omega.{arith}
 use Prim.Native.Nat.{_+_, _*_}
 use mathlib.Core.Path.{sym, ap, _∙_}
 use Rattle.words.proofs.Stores.{lent-length}
 use Rattle.rules.specs.Counts.{andDraws}
-use Rattle.rules.proofs.Loops.{add-place}
 use Rattle.sha1.proofs.add_in.Statement.{statement}
 use Rattle.sha1.proofs.add_in.Tie as tie
 
 returns : tie.Need-returns
-returns c = let s = c .before .before .before .before .before .before .before .before .before .before .before .before .before .before .before in let z = c .before .before .before .before .before .before .before .before .add-at in (z .ensures ∙ ap (λ l. (l, z .result)) (sym (c .before .before .before .copy .ensures)), add-place 32 _ _ _ _ _ _ (omega arith) (s .pre .2 ∙ sym (s .pre .1)) (z .ensures) ∙ ap (λ m. s .args .at + 32 * andDraws m) (s .pre .1))
+returns c = let s = c .before .before .before .before .before .before .before .before .before .before .before .before .before .before .before in let z = c .before .before .before .before .before .before .before .before .add-at in (z .ensures .0 ∙ ap (λ l. (l, z .result)) (sym (c .before .before .before .copy .ensures)), z .ensures .1 ∙ ap (λ m. s .args .at + 32 * andDraws m) (s .pre .1))
 
 pub add-in-spec : {M : Type 1} → statement M
 add-in-spec =
