@@ -243,7 +243,7 @@ pub fn tag_bytes(n: usize, chain: Chain, tag: &mut [u8])
     let tagged = &all[0..m];
     let mut w: usize = 0;
     while w < 5 {
-        let v = shares::open_xor(sha1::word(tagged, n, w));
+        let v = shares::open_xor(masked_words::word(tagged, n, w));
         put_bytes(v, w, tag);
         w += 1;
     }
