@@ -1,7 +1,7 @@
 // The hash that HMAC is over: its sizes, the chain that it starts from and its compression. The one crate that says which it is.
 ghost use mathlib.Core.Path.{_≡_};
 ghost use Prim.Native.Nat.{_+_, _*_, _≤_, _<_};
-ghost use lib.ListN.{length, set, replicate};
+ghost use lib.ListN.{length, set};
 ghost use Rattle.rules.specs.Numbers.{largest};
 ghost use Rattle.rules.specs.Sha1.{publics, used, chainOf};
 ghost use Rattle.hash.specs.Hash.{hash};
@@ -28,17 +28,6 @@ const CHAIN: usize = WORDS * LARGEST;
 
 pub const BLOCK: usize = BLOCK_WORDS * LARGEST;
 
-// z becomes zeros.
-fn clear(z: &mut [u32])
-    ensures { λ _. ⌜ now (z .exit) ≡ replicate (length (now (z .entry))) 0 ⌝ }
-{
-    let mut i = 0;
-    while i < z.len() {
-        z[i] = 0;
-        i += 1;
-    }
-}
-
 // The first share of word w becomes v.
 fn show_at(n: usize, w: usize, v: u32, z: &mut [u32])
     requires { ⌜ w * n < length (now z) ⌝ }
@@ -52,7 +41,7 @@ pub fn publish(n: usize, values: &[u32], z: &mut [u32])
     requires { ⌜ (0 < n) × (length (now z) ≡ length (now values) * n) ⌝ }
     ensures { λ _. ⌜ now (z .exit) ≡ publics n (now (values .entry)) ⌝ }
 {
-    clear(z);
+    masked_words::clear(z);
     let mut w = 0;
     while w < values.len() {
         show_at(n, w, values[w], z);

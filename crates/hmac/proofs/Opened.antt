@@ -11,9 +11,7 @@ use Rattle.rules.specs.Numbers.{largest}
 use Rattle.rules.specs.Supply.{opened}
 use Rattle.rules.specs.Hash.{bytesOf, allBytes}
 use Rattle.rules.specs.Sha1.{word, openWords, used}
-use Rattle.hash.proofs.Publics.{place-room}
-use Rattle.sha1.proofs.Parts.{used-lent}
-use Rattle.hmac.proofs.Steps.{chain-room}
+use Rattle.sha1.proofs.Parts.{used-lent, chain-room}
 
 -- a word as bytes
 pub bytes-put : (tag : List ℕ) (v i : ℕ) → i + 4 ≤ length tag
@@ -29,9 +27,6 @@ bytes-put tag v i h =
     rw (e1, e2, e3)
     (ap (λ t. take (i + 4) (set three (suc (suc (suc i))) (t % 256))) one
     ∙ take-sets tag (v / 16777216 % 256 ∷ v / 65536 % 256 ∷ v / 256 % 256 ∷ v / 1 % 256 ∷ []) i h)
-
-pub tag-room : (n w l : ℕ) → w < 5 → l ≡ 5 * n → w * n + n ≤ l
-tag-room n w l h e = omega (arith, place-room 5 n w h)
 
 -- w words done, the rest still in shares
 module _ (n : ℕ) (s : List ℕ) where

@@ -1,7 +1,7 @@
 -- The steps of HMAC, each made from its parts, and how many words they draw.
 use Prim.Native.Nat.{ℕ, suc, _+_, _-_, _*_, _/_, _≤_, _<_}
 use mathlib.Core.Path.{_≡_, refl, sym, ap, _∙_}
-use mathlib.Core.List.{List, [], _∷_, _++_, map, append-nil}
+use mathlib.Core.List.{List, [], _∷_, _++_, append-nil}
 use native.Mathlib.Omega.{arith}
 use native.Mathlib.Nat.{add-mul, mul-comm, mul-assoc, sub-zero, zero-mul}
 use lib.Bits.{bitXor}
@@ -12,17 +12,13 @@ use Rattle.rules.specs.Standard.{SHA1, H0}
 use Rattle.rules.specs.Sha1.{publics, openWords, used, chainOf}
 use Rattle.rules.specs.Hmac.{Masked, marked, blocks, digestPadding, hmacShares, hmacTag}
 use Rattle.rules.specs.Counts.{compressions, sha1}
-use Rattle.rules.specs.Numbers.{largest}
-use Rattle.rules.proofs.Loops.{chain-length}
+use Rattle.rules.proofs.Loops.{Run, parts-room, parts-end}
 use Rattle.rules.proofs.Hashes.{ending-blocks}
 use Rattle.rules.proofs.Tags.{sha1-proper}
 use Rattle.hash.specs.Hash.{hash}
 use Rattle.hash.proofs.Publics.{place-room, start-used, publics-part}
 use Rattle.padding.specs.Whole.{blocksIn}
 use Rattle.sha1.proofs.Parts.{used-lent}
-
-abbrev Run : Type 0
-Run = List ℕ × ℕ
 
 -- ---- a constant in share 1 of each word
 module _ (n c : ℕ) (z e : List ℕ) where
@@ -37,9 +33,6 @@ module _ (n c : ℕ) (z e : List ℕ) where
   pub marked-end : (w : ℕ) → 16 ≤ w → marked n c (16 - w) w z ≡ e → z ≡ e
   unfolding marked
   marked-end w h p = let q : 16 - w ≡ 0 = omega arith in rw q at p
-
-pub chain-room : (n : ℕ) (chain : List ℕ) → length (map (λ (v : ℕ). v) chain) ≡ 5 * largest → n ≤ largest → 5 * n ≤ length chain
-chain-room n chain e h = omega (arith, chain-length chain e)
 
 pub public-made : (n : ℕ) (values v z : List ℕ) → v ≡ values → z ≡ publics n v → z ≡ publics n values
 public-made n values v z e f = rw (← e) f
@@ -96,16 +89,13 @@ module _ (n : ℕ) (ws W : List ℕ) (count : ℕ) (e : Run) where
   unfolding blocks
   blocks-end j p g l inv = let m : count - j ≡ 0 = omega arith in sym (rw m at inv)
 
--- part j of so many, of d words each
-module _ (j d at p : ℕ) (before : p ≡ at + j * d) where
-  pub parts-room : (count m have : ℕ) → j < count → count ≡ m → at + m * d ≤ have → p + d ≤ have
-  parts-room count m have h e l = omega (arith, place-room m d j (omega arith))
+-- block j of so many, of d words each
+module _ (j d at p count m : ℕ) (same : count ≡ m) where
+  pub block-room : (have : ℕ) → j < count → p ≡ at + j * d → at + m * d ≤ have → p + d ≤ have
+  block-room have h e l = parts-room m j d at p have (omega arith) e l
 
-  pub parts-next : (r : ℕ) → r ≡ p + d → r ≡ at + (j + 1) * d
-  parts-next r e = omega (arith, add-mul j 1 d)
-
-  pub parts-end : (count m : ℕ) → count ≤ j → j ≤ count → count ≡ m → p ≡ at + m * d
-  parts-end count m h l e = let q : j ≡ m = omega arith in rw q at before
+  pub block-place : count ≤ j → j ≤ count → p ≡ at + j * d → p ≡ at + m * d
+  block-place h l e = parts-end m j d at p (omega arith) (omega arith) e
 
 -- ---- the digest block: the inner digest d, stored in front of zeros or anything, and the padding x after it
 pub digest-made : (n : ℕ) (inner d x z : List ℕ) → length inner ≡ 5 * n → length z ≡ 16 * n → d ≡ inner

@@ -192,7 +192,7 @@ fn open_bytes(n: usize, digest: &[u32], tag: &mut [u8])
 {
     let mut w: usize = 0;
     while w < WORDS {
-        let v = shares::open_xor(sha1::word(digest, n, w));
+        let v = shares::open_xor(masked_words::word(digest, n, w));
         put_bytes(v, w, tag);
         w += 1;
     }

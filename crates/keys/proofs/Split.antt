@@ -14,7 +14,6 @@ use Rattle.rules.specs.Hmac.{splits, splitKey}
 use Rattle.rules.proofs.Rule.{next-rule}
 use Rattle.rules.proofs.Bytes.{length-words}
 use Rattle.rules.proofs.Sizes.{splitKey-sized}
-use Rattle.hash.proofs.Publics.{place-room}
 
 abbrev H : Hash
 H = SHA1 32
@@ -94,13 +93,3 @@ module _ (n : ℕ) (key ws : List ℕ) where
       let done : z ≡ splits n vs ws at .0 = sym (append-nil z) ∙ ap (λ (t : List ℕ). t ++ []) (sym whole) ∙ (rw none at q) in
       let place : splits n vs ws at .1 ≡ p = splitKey-sized H n key some .place ws at ∙ rw (← all) (sym f) in
       rw (done, ← place)
-
--- word w of 16, in the shares; and in the supply, of d words each
-pub word-room : (n w l : ℕ) → w < 16 → l ≡ 16 * n → w * n + n ≤ l
-word-room n w l h e = omega (arith, place-room 16 n w h)
-
-pub words-room : (w d at p have : ℕ) → w < 16 → p ≡ at + w * d → at + 16 * d ≤ have → p + d ≤ have
-words-room w d at p have h e l = omega (arith, place-room 16 d w h)
-
-pub words-next : (w d at p r : ℕ) → p ≡ at + w * d → r ≡ p + d → r ≡ at + (w + 1) * d
-words-next w d at p r e f = omega (arith, add-mul w 1 d)

@@ -1,6 +1,7 @@
 -- the digest's block compressed into the outer chain
 use borrow.Author.Needs.{needs}
-use Rattle.hmac.proofs.Steps.{chain-room, digest-step-made}
+use Rattle.sha1.proofs.Parts.{chain-room}
+use Rattle.hmac.proofs.Steps.{digest-step-made}
 use Rattle.hmac.proofs.digest_step.Statement.{statement}
 use Rattle.hmac.proofs.digest_step.Tie as tie
 

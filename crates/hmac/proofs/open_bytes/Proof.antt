@@ -6,7 +6,8 @@ use native.Mathlib.Nat.{zero-mul}
 use lib.ListN.{length}
 use Rattle.rules.specs.Hash.{allBytes}
 use Rattle.rules.specs.Sha1.{openWords}
-use Rattle.hmac.proofs.Opened.{Opening, tag-room, tag-next, tag-end}
+use Rattle.masked_words.proofs.Parts.{word-room}
+use Rattle.hmac.proofs.Opened.{Opening, tag-next, tag-end}
 use Rattle.hmac.proofs.open_bytes.Statement.{statement}
 use Rattle.hmac.proofs.open_bytes.Tie as tie
 
@@ -23,7 +24,7 @@ open-bytes-spec =
     Inv-loop
     μ-loop
     (λ c. (search needs, search needs, rw (zero-mul _)))
-    (λ c κs. search tag-room)
+    (λ c κs. search word-room)
     (λ c κs. search needs)
     (λ c κs. search needs)
     (λ c. search needs)

@@ -1,6 +1,6 @@
 -- the used words of the chain, opened
 use borrow.Author.Needs.{needs}
-use Rattle.hmac.proofs.Steps.{chain-room}
+use Rattle.sha1.proofs.Parts.{chain-room}
 use Rattle.hmac.proofs.Opened.{lent-used, tag-opened}
 use Rattle.hmac.proofs.tag_bytes.Statement.{statement}
 use Rattle.hmac.proofs.tag_bytes.Tie as tie

@@ -8,7 +8,7 @@ use Rattle.rules.specs.Sha1.{publics, used}
 use Rattle.rules.specs.Hmac.{blocks}
 use Rattle.hash.specs.Hash.{hash}
 use Rattle.padding.specs.Whole.{blocksIn}
-use Rattle.hmac.proofs.Steps.{Left, blocks-begin, blocks-next, blocks-end, parts-room, parts-next, parts-end}
+use Rattle.hmac.proofs.Steps.{Left, blocks-begin, blocks-next, blocks-end, block-room, block-place}
 use Rattle.hmac.proofs.text_step.Statement.{statement}
 use Rattle.hmac.proofs.text_step.Tie as tie
 
@@ -29,8 +29,8 @@ text-step-spec =
     μ-loop
     (λ c κs. search needs)
     (λ c. (search needs, search needs, search needs, search blocks-begin))
-    (λ c κs. (search needs, search needs, search needs, search needs, search needs, search parts-room))
+    (λ c κs. (search needs, search needs, search needs, search needs, search needs, search block-room))
     (λ c. search needs)
     (λ c. search needs)
-    (λ c. (search needs, search needs, search parts-next, search blocks-next))
-    (λ c. (search blocks-end, search parts-end)))
+    (λ c. (search needs, search needs, search needs, search blocks-next))
+    (λ c. (search blocks-end, search block-place)))

@@ -6,7 +6,9 @@ use lib.ListN.{length}
 use Rattle.rules.specs.Hash.{wordsOf, keyBlock}
 use Rattle.rules.specs.Hmac.{splits}
 use Rattle.hash.specs.Hash.{hash}
-use Rattle.keys.proofs.Split.{Splitting, splits-begins, splits-next, split-key-made, word-room, words-room, words-next}
+use Rattle.rules.proofs.Loops.{parts-room}
+use Rattle.masked_words.proofs.Parts.{word-room}
+use Rattle.keys.proofs.Split.{Splitting, splits-begins, splits-next, split-key-made}
 use Rattle.keys.proofs.split_key.Statement.{statement}
 use Rattle.keys.proofs.split_key.Tie as tie
 
@@ -26,9 +28,9 @@ split-key-spec =
     μ-loop
     (λ c. (search needs, search needs, search needs, splits-begins _ _ _ _ _))
     (λ c κs. search needs)
-    (λ c κs. (search needs, search word-room, search words-room))
+    (λ c κs. (search needs, search word-room, search parts-room))
     (λ c. search needs)
     (λ c. search needs)
-    (λ c. (search needs, search needs, search words-next, search splits-next))
+    (λ c. (search needs, search needs, search needs, search splits-next))
     (λ c. search needs)
     (λ c. search split-key-made))

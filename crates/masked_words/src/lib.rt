@@ -1,0 +1,108 @@
+// Words in n shares each, one after the other: share i of word w stands at place w·n + i.
+// Taking and storing one of them, and what SHA-1 does with whole words.
+ghost use mathlib.Core.Path.{_≡_};
+ghost use mathlib.Core.List.{[], _∷_, _++_};
+ghost use Prim.Native.Nat.{_+_, _*_, _≤_, _<_};
+ghost use lib.Bits.{bitXor};
+ghost use lib.ListN.{length, replicate};
+ghost use Rattle.rules.specs.Shares.{each, add};
+ghost use Rattle.rules.specs.Sha1.{word, public, rotl, rotated};
+ghost use Rattle.rules.specs.Counts.{andDraws};
+ghost use Rattle.masked_words.specs.Words.{Masked, firsts};
+use shares::LARGEST;
+
+// ---- places
+
+// Word w of several.
+pub fn word(s: &[u32], n: usize, w: usize) -> &[u32]
+    requires { ⌜ w * n + n ≤ length (now s) ⌝ }
+    ensures { λ r. ⌜ (now r ≡ word n w (now (s .entry))) × (length (now r) ≡ n) ⌝ }
+{
+    let a = w * n;
+    let e = a + n;
+    &s[a..e]
+}
+
+// x becomes word w of z, after those before it.
+pub fn put_word(n: usize, w: usize, x: &[u32], z: &mut [u32])
+    requires { ⌜ (length (now x) ≡ n) × (w * n + n ≤ length (now z)) ⌝ }
+    ensures { λ _. ⌜ firsts n (w + 1) (now (z .exit)) ≡ firsts n w (now (z .entry)) ++ now (x .entry) ⌝ }
+{
+    shares::put(x, z, w * n);
+}
+
+// Word i of s becomes word w of z, after those before it.
+pub fn move_word(n: usize, i: usize, s: &[u32], w: usize, z: &mut [u32])
+    requires { ⌜ (i * n + n ≤ length (now s)) × (w * n + n ≤ length (now z)) ⌝ }
+    ensures { λ _. ⌜ firsts n (w + 1) (now (z .exit)) ≡ firsts n w (now (z .entry)) ++ word n i (now (s .entry)) ⌝ }
+{
+    put_word(n, w, word(s, n, i), z);
+}
+
+// ---- one word
+
+// z becomes zeros.
+pub fn clear(z: &mut [u32])
+    ensures { λ _. ⌜ now (z .exit) ≡ replicate (length (now (z .entry))) 0 ⌝ }
+{
+    let mut i = 0;
+    while i < z.len() {
+        z[i] = 0;
+        i += 1;
+    }
+}
+
+// A public value: (v, 0, .., 0).
+pub fn public(n: usize, v: u32, z: &mut [u32])
+    requires { ⌜ (0 < n) × (length (now z) ≡ n) ⌝ }
+    ensures { λ _. ⌜ now (z .exit) ≡ public n v ⌝ }
+{
+    clear(z);
+    z[0] = v;
+}
+
+// The rotation of one share to the left.
+fn rotate_share(x: u32, r: u32) -> u32
+    requires { ⌜ (0 < r) × (r < 32) ⌝ }
+    ensures { λ v. ⌜ v ≡ rotl 32 r x ⌝ }
+{
+    (x << r) ^ (x >> (32 - r))
+}
+
+// The rotation, share by share.
+pub fn rotate(r: u32, x: &[u32], z: &mut [u32])
+    requires { ⌜ (0 < r) × (r < 32) × (length (now z) ≡ length (now x)) ⌝ }
+    ensures { λ _. ⌜ now (z .exit) ≡ rotated 32 r (now (x .entry)) ⌝ }
+{
+    let mut i = 0;
+    while i < x.len() {
+        z[i] = rotate_share(x[i], r);
+        i += 1;
+    }
+}
+
+// ---- two words and three
+
+// x becomes x + y.
+pub fn add_in(n: usize, x: &mut [u32], y: &[u32], words: &[u32], at: usize) -> usize
+    requires { ⌜ Masked n (now x ∷ now y ∷ []) × (at + 32 * andDraws n ≤ length (now words)) ⌝ }
+    ensures { λ r. ⌜ (add 32 (now (x .entry)) (now (y .entry)) (now (words .entry)) at ≡ (now (x .exit), r))
+        × (r ≡ at + 32 * andDraws n) ⌝ }
+{
+    let mut z0 = [0u32; LARGEST];
+    let z = &mut z0[0..n];
+    let p = adder::add_at(x, y, z, words, at);
+    shares::copy(z, x);
+    p
+}
+
+// The parity of three words: b XOR c XOR d.
+pub fn parity(n: usize, b: &[u32], c: &[u32], d: &[u32], f: &mut [u32])
+    requires { ⌜ Masked n (now b ∷ now c ∷ now d ∷ now f ∷ []) ⌝ }
+    ensures { λ _. ⌜ now (f .exit) ≡ each bitXor (each bitXor (now (b .entry)) (now (c .entry))) (now (d .entry)) ⌝ }
+{
+    let mut x0 = [0u32; LARGEST];
+    let x = &mut x0[0..n];
+    shares::xor_each(b, c, x);
+    shares::xor_each(x, d, f);
+}

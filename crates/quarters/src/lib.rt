@@ -1,0 +1,147 @@
+// The function f and the constant K of each quarter of SHA-1's rounds, on words of n shares.
+ghost use mathlib.Core.Path.{_≡_};
+ghost use mathlib.Core.List.{[], _∷_};
+ghost use Prim.Native.Nat.{_+_, _*_, _≤_, _<_};
+ghost use lib.ListN.{length};
+ghost use Rattle.rules.specs.Numbers.{largest};
+ghost use Rattle.rules.specs.Standard.{K};
+ghost use Rattle.rules.specs.Sha1.{word, public, blended, chosen};
+ghost use Rattle.rules.specs.Counts.{andDraws, quarterAnds};
+ghost use Rattle.masked_words.specs.Words.{Masked};
+use masked_words::parity;
+use masked_words::public;
+use masked_words::word;
+use shares::LARGEST;
+
+// d XOR (u AND v).
+fn blend(
+    n: usize,
+    u: &[u32],
+    v: &[u32],
+    d: &[u32],
+    f: &mut [u32],
+    words: &[u32],
+    at: usize,
+) -> usize
+    requires { ⌜ Masked n (now u ∷ now v ∷ now d ∷ now f ∷ []) × (at + andDraws n ≤ length (now words)) ⌝ }
+    ensures { λ r. ⌜ (blended (now (u .entry)) (now (v .entry)) (now (d .entry)) (now (words .entry)) at
+        ≡ (now (f .exit), r))
+        × (r ≡ at + andDraws n) ⌝ }
+{
+    let mut y0 = [0u32; LARGEST];
+    let y = &mut y0[0..n];
+    let p = adder::and_at(u, v, y, words, at);
+    shares::xor_each(d, y, f);
+    p
+}
+
+// Ch = d XOR (b AND (c XOR d)).
+fn choose(
+    n: usize,
+    b: &[u32],
+    c: &[u32],
+    d: &[u32],
+    f: &mut [u32],
+    words: &[u32],
+    at: usize,
+) -> usize
+    requires { ⌜ Masked n (now b ∷ now c ∷ now d ∷ now f ∷ []) × (at + andDraws n ≤ length (now words)) ⌝ }
+    ensures { λ r. ⌜ (chosen 0 (now (b .entry)) (now (c .entry)) (now (d .entry)) (now (words .entry)) at
+        ≡ (now (f .exit), r))
+        × (r ≡ at + andDraws n) ⌝ }
+{
+    let mut v0 = [0u32; LARGEST];
+    let v = &mut v0[0..n];
+    shares::xor_each(c, d, v);
+    blend(n, b, v, d, f, words, at)
+}
+
+// Maj = d XOR ((b XOR d) AND (c XOR d)).
+fn majority(
+    n: usize,
+    b: &[u32],
+    c: &[u32],
+    d: &[u32],
+    f: &mut [u32],
+    words: &[u32],
+    at: usize,
+) -> usize
+    requires { ⌜ Masked n (now b ∷ now c ∷ now d ∷ now f ∷ []) × (at + andDraws n ≤ length (now words)) ⌝ }
+    ensures { λ r. ⌜ (chosen 2 (now (b .entry)) (now (c .entry)) (now (d .entry)) (now (words .entry)) at
+        ≡ (now (f .exit), r))
+        × (r ≡ at + andDraws n) ⌝ }
+{
+    let mut u0 = [0u32; LARGEST];
+    let mut v0 = [0u32; LARGEST];
+    let u = &mut u0[0..n];
+    let v = &mut v0[0..n];
+    shares::xor_each(b, d, u);
+    shares::xor_each(c, d, v);
+    blend(n, u, v, d, f, words, at)
+}
+
+// The function of quarter q: Ch, Parity, Maj, Parity.
+fn quarter(
+    n: usize,
+    q: usize,
+    b: &[u32],
+    c: &[u32],
+    d: &[u32],
+    f: &mut [u32],
+    words: &[u32],
+    at: usize,
+) -> usize
+    requires { ⌜ (q < 4) × Masked n (now b ∷ now c ∷ now d ∷ now f ∷ [])
+        × (at + quarterAnds q * andDraws n ≤ length (now words)) ⌝ }
+    ensures { λ r. ⌜ (chosen q (now (b .entry)) (now (c .entry)) (now (d .entry)) (now (words .entry)) at
+        ≡ (now (f .exit), r))
+        × (r ≡ at + quarterAnds q * andDraws n) ⌝ }
+{
+    if q == 0 {
+        return choose(n, b, c, d, f, words, at);
+    }
+    if q == 2 {
+        return majority(n, b, c, d, f, words, at);
+    }
+    parity(n, b, c, d, f);
+    at
+}
+
+// The function of quarter q, of the words b, c and d of the state s.
+pub fn quarter_of(n: usize, q: usize, s: &[u32], f: &mut [u32], words: &[u32], at: usize) -> usize
+    requires { ⌜ (q < 4) × (n ≤ largest) × (length (now s) ≡ 5 * n) × (length (now f) ≡ n)
+        × (at + quarterAnds q * andDraws n ≤ length (now words)) ⌝ }
+    ensures { λ r. ⌜ (chosen q (word n 1 (now (s .entry))) (word n 2 (now (s .entry))) (word n 3 (now (s .entry)))
+        (now (words .entry)) at
+        ≡ (now (f .exit), r))
+        × (r ≡ at + quarterAnds q * andDraws n) ⌝ }
+{
+    quarter(
+        n,
+        q,
+        word(s, n, 1),
+        word(s, n, 2),
+        word(s, n, 3),
+        f,
+        words,
+        at,
+    )
+}
+
+// The constants of the quarters.
+const CONSTANTS: [u32; 4] = [0x5a827999, 0x6ed9eba1, 0x8f1bbcdc, 0xca62c1d6];
+
+fn constant(q: usize) -> u32
+    requires { ⌜ q < 4 ⌝ }
+    ensures { λ r. ⌜ r ≡ K q ⌝ }
+{
+    CONSTANTS[q]
+}
+
+// z becomes the constant of quarter q, in shares.
+pub fn constant_of(n: usize, q: usize, z: &mut [u32])
+    requires { ⌜ (q < 4) × (0 < n) × (length (now z) ≡ n) ⌝ }
+    ensures { λ _. ⌜ now (z .exit) ≡ public n (K q) ⌝ }
+{
+    public(n, constant(q), z);
+}

@@ -1,0 +1,68 @@
+// The schedule of masked SHA-1: eighty words in n shares each, made from the sixteen of a block.
+ghost use mathlib.Core.Path.{_≡_};
+ghost use mathlib.Core.List.{_++_};
+ghost use Prim.Native.Nat.{_+_, _-_, _*_, _≤_, _<_};
+ghost use lib.ListN.{length};
+ghost use Rattle.rules.specs.Numbers.{largest};
+ghost use Rattle.rules.specs.Sha1.{ago, following, schedule};
+ghost use Rattle.masked_words.specs.Words.{firsts};
+use masked_words::parity;
+use masked_words::put_word;
+use masked_words::rotate;
+use masked_words::word;
+use shares::LARGEST;
+
+// How many words a block has.
+const BLOCK: usize = 16;
+
+// How many words the schedule has, and room for them at the largest share count.
+pub const WORDS: usize = 80;
+
+pub const ROOM: usize = WORDS * LARGEST;
+
+// The word j before word t of the schedule u.
+fn ago(n: usize, u: &[u32], t: usize, j: usize) -> &[u32]
+    requires { ⌜ (1 ≤ j) × (j ≤ t) × (t * n ≤ length (now u)) ⌝ }
+    ensures { λ r. ⌜ (now r ≡ ago n j (firsts n t (now (u .entry)))) × (length (now r) ≡ n) ⌝ }
+{
+    word(u, n, t - j)
+}
+
+// z becomes word t of the schedule u, from those 3, 8, 14 and 16 before it.
+fn following_at(n: usize, u: &[u32], t: usize, z: &mut [u32])
+    requires { ⌜ (n ≤ largest) × (16 ≤ t) × (t * n ≤ length (now u)) × (length (now z) ≡ n) ⌝ }
+    ensures { λ _. ⌜ now (z .exit) ≡ following 32 n (firsts n t (now (u .entry))) ⌝ }
+{
+    let mut x0 = [0u32; LARGEST];
+    let mut y0 = [0u32; LARGEST];
+    let x = &mut x0[0..n];
+    let y = &mut y0[0..n];
+    parity(n, ago(n, u, t, 3), ago(n, u, t, 8), ago(n, u, t, 14), x);
+    shares::xor_each(x, ago(n, u, t, 16), y);
+    rotate(1, y, z);
+}
+
+// One word more of the schedule u: word t.
+fn schedule_word(n: usize, t: usize, u: &mut [u32])
+    requires { ⌜ (n ≤ largest) × (16 ≤ t) × (t * n + n ≤ length (now u)) ⌝ }
+    ensures { λ _. ⌜ firsts n (t + 1) (now (u .exit))
+        ≡ firsts n t (now (u .entry)) ++ following 32 n (firsts n t (now (u .entry))) ⌝ }
+{
+    let mut x0 = [0u32; LARGEST];
+    let x = &mut x0[0..n];
+    following_at(n, u, t, x);
+    put_word(n, t, x, u);
+}
+
+// u becomes the schedule of a block.
+pub fn schedule_at(n: usize, block: &[u32], u: &mut [u32])
+    requires { ⌜ (n ≤ largest) × (length (now block) ≡ 16 * n) × (length (now u) ≡ 80 * n) ⌝ }
+    ensures { λ _. ⌜ now (u .exit) ≡ schedule 32 n 64 (now (block .entry)) ⌝ }
+{
+    shares::put(block, u, 0);
+    let mut t = BLOCK;
+    while t < WORDS {
+        schedule_word(n, t, u);
+        t += 1;
+    }
+}
