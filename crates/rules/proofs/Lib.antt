@@ -18,3 +18,4 @@ pub mod MaskedHmac
 pub mod Sizes
 pub mod Opens
 pub mod Tags
+pub mod Outcomes
