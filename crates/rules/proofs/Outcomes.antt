@@ -1,26 +1,34 @@
 -- What a call comes to, over any tests and any rule: which number it gives, what it leaves, and which words have no say in it.
 -- crates/claims says it of each call.
-use Prim.Native.Nat.{ℕ, zero, suc, _+_, _*_, _-_, _^_, _≤_, _<_}
+use Prim.Native.Nat.{ℕ, zero, suc, _+_, _-_, _*_, _/_, _^_, _≤_, _<_}
 use mathlib.Core.Path.{_≡_, refl, sym, ap, _∙_, subst}
 use mathlib.Core.Bool.{Bool, true, false}
 use mathlib.Core.List.{List, [], _∷_, _++_}
 use mathlib.Core.Logic.{_⊎_, inl, inr}
-use native.Mathlib.Nat.{zero-add}
+use native.Mathlib.Nat.{zero-add, suc-mul}
 use native.Mathlib.Omega.{arith}
 use lib.Dec.{eqb, leb}
-use lib.ListN.{length, getD, take, length-take}
-use lib.Seq.{length-take-le, getD-take}
-use borrow.Author.Tests.{eqb-true, eqb-false, leb-true, leb-false, le-leb}
-use Rattle.rules.specs.Supply.{Draw, Agree, Rule, Shares, Words, openedSum}
+use lib.ListN.{length, getD, take, drop, replicate, length-take, length-drop, take-append-drop}
+use lib.Pow.{pow-pos}
+use lib.Seq.{length-take-le, getD-take, take-append-le, drop-append-le}
+use borrow.Author.Tests.{eqb-true, eqb-false, leb-true, leb-false, eq-eqb, le-leb}
+use Rattle.rules.specs.declared.Chain.{Chain}
+use Rattle.rules.specs.declared.Compressed.{Compressed}
+use Rattle.rules.specs.Supply.{Draw, Agree, Rule, Shares, Words, opened, openedSum}
 use Rattle.rules.specs.Numbers.{either, both, allowed, Test, test, first, settled}
 use Rattle.rules.specs.Shares.{refresh, add}
 use Rattle.rules.specs.Convert.{toBool, toArith}
-use Rattle.rules.specs.Counts.{addDraws, refreshDraws, toBoolDraws, toArithDraws}
-use Rattle.rules.specs.Calls.{call}
-use Rattle.rules.specs.Outcome.{Allowed, Given, done, one, two, three, four, five, Settles, OnShares, Follows, Makes}
-use Rattle.rules.proofs.Rule.{said}
+use Rattle.rules.specs.Standard.{compress as compressOf}
+use Rattle.rules.specs.Sha1.{openWords, compress, used, chainOf}
+use Rattle.rules.specs.Counts.{andDraws, addDraws, refreshDraws, toBoolDraws, toArithDraws, sha1}
+use Rattle.rules.specs.Calls.{call, compressCall}
+use Rattle.rules.specs.Outcome.{Allowed, None, Given, done, one, two, three, four, five, Settles, OnShares, Follows, Makes}
+use Rattle.rules.proofs.Rule.{said, counted}
 use Rattle.rules.proofs.Openings.{opened-lt}
-use Rattle.rules.proofs.Conversion.{add-adds, refresh-refreshes, toBool-rule, toArith-rule}
+use Rattle.rules.proofs.Conversion.{words-take, words-drop, add-adds, refresh-refreshes, toBool-rule, toArith-rule}
+use Rattle.rules.proofs.MaskedHmac.{Keeps}
+use Rattle.rules.proofs.Sizes.{Sized, add-sizes, sha1-sizes, compress-sized, andDraws-twice, compress-count}
+use Rattle.rules.proofs.Opens.{Masks, sha1-opens, compress-opens}
 use Rattle.rules.proofs.Allowed.{within, power-of}
 
 -- ---- what a test says of the condition that it tests
@@ -96,13 +104,22 @@ settled-pair : {A B : Type 0} (number : ℕ) (a : A × B) (c : A) (d : B)
 settled-pair zero a c d = refl
 settled-pair (suc number) a c d = refl
 
--- ---- supplies whose first words are the same
-module _ (d : ℕ) (ws vs : List ℕ) (same : take d ws ≡ take d vs) (enough : d ≤ length ws) where
-  same-words : Agree ws vs 0 (0 + d)
-  same-words i h l = sym (getD-take d ws i 0 (omega arith)) ∙ ap (λ t. getD t i 0) same ∙ getD-take d vs i 0 (omega arith)
+-- ---- a rule from place 0
+module _ {d : ℕ} {P : List ℕ → Type 0} {rule : Draw (List ℕ)} (law : Rule d P rule) (ws : List ℕ) where
+  place : rule ws 0 .1 ≡ d
+  place = law .place ws 0 ∙ zero-add d
 
-  as-long : d ≤ length vs
-  as-long = omega (arith, length-take d vs, ap length same, length-take-le d ws enough)
+  says-supply : Says (d ≤ length ws) (leb (rule ws 0 .1) (length ws))
+  says-supply = rw place (says-le d (length ws))
+
+  -- a supply with the same first words
+  module _ (vs : List ℕ) (same : take d ws ≡ take d vs) (enough : d ≤ length ws) where
+    alike : rule ws 0 ≡ rule vs 0
+    alike =
+        law .same ws vs 0 (λ i h l. sym (getD-take d ws i 0 (omega arith)) ∙ ap (λ t. getD t i 0) same ∙ getD-take d vs i 0 (omega arith))
+
+    as-long : d ≤ length vs
+    as-long = omega (arith, length-take d vs, ap length same, length-take-le d ws enough)
 
 -- ---- a call on shares follows its rule, which has its law where the call's tests are passed
 module _ (n : ℕ) {Input Text : Type 0} {input text : Bool} (says-input : Says Input input) (says-text : Says Text text) (size d : ℕ)
@@ -115,31 +132,26 @@ module _ (n : ℕ) {Input Text : Type 0} {input text : Bool} (says-input : Says 
     abbrev number : ℕ
     number = of came ws .0 .number
 
-    place : Allowed n → Input → Text → rule ws 0 .1 ≡ d
-    place c i t = law c i t .place ws 0 ∙ zero-add d
-
     number-is : Given (Allowed n) Input (length came ≡ size) Text (d ≤ length ws) number
     number-is =
         given (says-count n) says-input (says-eq (length came) size) says-text
-        (λ c i o t. subst (λ m. Says (d ≤ length ws) (leb m (length ws))) (sym (place c i t)) (says-le d (length ws)))
+        (λ c i o t. says-supply (law c i t) ws)
 
-    counted : number ≡ 0 → of came ws .0 .drawn ≡ d
-    counted h = let a = asked number-is h in rw h (place (a .0) (a .1) (a .3))
+    draws-so : number ≡ 0 → of came ws .0 .drawn ≡ d
+    draws-so h = let a = asked number-is h in rw h (place (law (a .0) (a .1) (a .3)) ws)
 
     past : (vs : List ℕ) → number ≡ 0 → take d ws ≡ take d vs → of came ws ≡ of came vs
     past vs h same =
         let a = asked number-is h in
-        let e = place (a .0) (a .1) (a .3) in
-        let like = law (a .0) (a .1) (a .3) .same ws vs 0 (same-words d ws vs same (a .4)) in
-        let long = as-long d ws vs same (a .4) in
-        rw (← like, e, le-leb d (length ws) (a .4), le-leb d (length vs) long)
+        let l = law (a .0) (a .1) (a .3) in
+        rw (← alike l ws vs same (a .4), place l ws, le-leb d (length ws) (a .4), le-leb d (length vs) (as-long l ws vs same (a .4)))
 
   pub follows : Follows n Input size Text d rule of
   follows =
       record {
         outcome = λ came ws.
             settles (number came ws) (rule ws 0) (came, 0) _ (number-is came ws) (settled-pair (number came ws) (rule ws 0) came 0);
-        count = counted;
+        count = draws-so;
         past-draws = past;
       }
 
@@ -198,3 +210,118 @@ module _ (n : ℕ) (count : Allowed n) where
         said
         (toArith-rule k (addDraws k) (add k) (add-adds k bits) refreshDraws refresh refresh-refreshes (power .0) x (size ∙ power .1) (opened-lt k x words))
         (ap (toArithDraws (addDraws k) refreshDraws) size) (λ z g. g ∙ size)
+
+-- ---- counts in closed form
+pub and-count : (n : ℕ) → andDraws n ≡ n * (n - 1) / 2
+unfolding andDraws
+and-count zero = refl
+and-count (suc m) = let e : suc m - 1 ≡ m = omega arith in rw e (omega (arith, andDraws-twice m))
+
+pub add-count : (n : ℕ) → addDraws 32 n ≡ 16 * (n * (n - 1))
+unfolding andDraws
+add-count zero = refl
+add-count (suc m) = let e : suc m - 1 ≡ m = omega arith in rw e (omega (arith, andDraws-twice m))
+
+-- ---- several words, opened
+pub open-front : (n m : ℕ) (s t : List ℕ) → length s ≡ m * n → openWords n m (s ++ t) ≡ openWords n m s
+unfolding openWords
+open-front n zero s t h = refl
+open-front n (suc m) s t h =
+    let l : n ≤ length s = omega (arith, suc-mul m n) in
+    rw (take-append-le n s t l, drop-append-le n s t l)
+    (ap (λ (u : List ℕ). opened (take n s) ∷ u) (open-front n m (drop n s) t (length-drop n s ∙ omega (arith, suc-mul m n))))
+
+open-used : (n : ℕ) (s : List ℕ) → length (used n s) ≡ 5 * n → openWords n 5 (used n s) ≡ openWords n 5 s
+unfolding used
+open-used n s h = sym (open-front n 5 (take (5 * n) s) (drop (5 * n) s) h) ∙ ap (openWords n 5) (take-append-drop (5 * n) s)
+
+pub words-opened : (k n m : ℕ) (s : List ℕ) → Words k s → Words k (openWords n m s)
+unfolding openWords
+words-opened k n zero s w i = pow-pos k
+words-opened k n (suc m) s w zero = opened-lt k (take n s) (words-take k n s w)
+words-opened k n (suc m) s w (suc i) = words-opened k n m (drop n s) (words-drop k n s w) i
+
+-- ---- SHA-1 in shares, at 32 bits
+module _ (n : ℕ) (count : Allowed n) where
+  pub sha1-size : Keeps (sha1 32) n (λ v. None) (Sized n)
+  sha1-size = sha1-sizes 32 n (some n count) 32 (add 32) (add-sizes 32 (omega arith))
+
+  pub sha1-keeps : Keeps (sha1 32) n (λ v. v < 2 ^ 32) (Masks 32 n)
+  sha1-keeps = sha1-opens 32 n (some n count) (omega arith) (addDraws 32) (add 32) (add-adds 32 (omega arith)) 32 refl
+
+  length-used : (s : List ℕ) → length s ≡ 40 → length (used n s) ≡ 5 * n
+  unfolding used
+  length-used s whole = length-take-le (5 * n) s (omega (arith, within n (ok n count) .1))
+
+-- one compression: a call whose output is a chain
+module _ (n : ℕ) (chain : Chain) (block : List ℕ) (whole : length (chain .shares) ≡ 40) where
+  abbrev d : ℕ
+  d = 5220 * (n * (n - 1))
+
+  abbrev rule : Draw (List ℕ)
+  rule = compress 32 (add 32) n (used n (chain .shares)) block
+
+  compress-law : Allowed n → length block ≡ 16 * n → Rule d (λ z. length z ≡ 5 * n) rule
+  compress-law c e =
+      counted (compress-sized (sha1 32) n (some n c) (sha1-size n c) (used n (chain .shares)) block (length-used n c (chain .shares) whole) e)
+      (compress-count n)
+
+  module _ (ws : List ℕ) where
+    abbrev o : Compressed
+    o = compressCall 32 n chain block ws
+
+    pub compress-number : Given (Allowed n) (length block ≡ 16 * n) None None (d ≤ length ws) (o .number)
+    unfolding first
+    compress-number =
+        given (says-count n) (says-eq (length block) (16 * n)) (yes tt) (yes tt)
+        (λ c i n t. says-supply (compress-law c i) ws)
+
+    -- ---- by that number: the new chain, or the one given
+    pub compress-outcome : (let made = rule ws 0 in
+        Settles {A = Chain × ℕ} (Allowed n) (length block ≡ 16 * n) None None (d ≤ length ws) (o .number)
+        (record { shares = made .0 ++ replicate (40 - 5 * n) 0 }, made .1) (chain, 0) (o .chain, o .drawn))
+    unfolding chainOf
+    compress-outcome =
+        let made = rule ws 0 in
+        settles (o .number) (record { shares = chainOf n (made .0) }, made .1) (chain, 0) _ compress-number
+        (settled-pair (o .number) (record { shares = chainOf n (made .0) }, made .1) chain 0)
+
+    module _ (accepted : o .number ≡ 0) where
+      asks-for : Allowed n × (length block ≡ 16 * n) × None × None × (d ≤ length ws)
+      asks-for = asked compress-number accepted
+
+      law : Rule d (λ z. length z ≡ 5 * n) rule
+      law = compress-law (asks-for .0) (asks-for .1)
+
+      pub compress-drawn : o .drawn ≡ d
+      compress-drawn = rw accepted (place law ws)
+
+      -- what stands after the 5n words of the chain, and after the words drawn, has no say
+      pub compress-past : (other : Chain) (vs : List ℕ) → take (5 * n) (chain .shares) ≡ take (5 * n) (other .shares) → take d ws ≡ take d vs
+          → o ≡ compressCall 32 n other block vs
+      unfolding first used
+      compress-past other vs front same =
+          let enough = asks-for .4 in
+          rw (
+            ← front,
+            ← alike law ws vs same enough,
+            place law ws,
+            ok n (asks-for .0),
+            eq-eqb (length block) (16 * n) (asks-for .1),
+            le-leb d (length ws) enough,
+            le-leb d (length vs) (as-long law ws vs same enough),
+          )
+
+      pub compress-opens-to : Words 32 (chain .shares) → Words 32 block
+          → openWords n 5 (o .chain .shares) ≡ compressOf 32 (openWords n 5 (chain .shares)) (openWords n 16 block)
+      unfolding chainOf used
+      compress-opens-to words blocks =
+          let c = asks-for .0 in
+          let made = rule ws 0 .0 in
+          let h = used n (chain .shares) in
+          let size = length-used n c (chain .shares) whole in
+          rw accepted
+          (open-front n 5 made (replicate (40 - 5 * n) 0) (law .makes ws 0)
+          ∙ compress-opens 32 n (some n c) (omega arith) (addDraws 32) (add 32) (add-adds 32 (omega arith)) h block ws 0 size (asks-for .1)
+          (words-opened 32 n 5 h (words-take 32 (5 * n) (chain .shares) words)) (words-opened 32 n 16 block blocks)
+          ∙ ap (λ t. compressOf 32 t (openWords n 16 block)) (open-used n (chain .shares) size))
