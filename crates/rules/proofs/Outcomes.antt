@@ -16,6 +16,7 @@ use Rattle.rules.specs.declared.Chain.{Chain}
 use Rattle.rules.specs.declared.Compressed.{Compressed}
 use Rattle.rules.specs.Supply.{Draw, Agree, Rule, Shares, Words, opened, openedSum}
 use Rattle.rules.specs.Numbers.{either, both, allowed, Test, test, first, settled}
+use Rattle.rules.specs.Independent.{Independent}
 use Rattle.rules.specs.Shares.{refresh, add}
 use Rattle.rules.specs.Convert.{toBool, toArith}
 use Rattle.rules.specs.Standard.{compress as compressOf}
@@ -25,7 +26,7 @@ use Rattle.rules.specs.Calls.{call, compressCall}
 use Rattle.rules.specs.Outcome.{Allowed, None, Given, done, one, two, three, four, five, Settles, OnShares, Follows, Makes}
 use Rattle.rules.proofs.Rule.{said, counted}
 use Rattle.rules.proofs.Openings.{opened-lt}
-use Rattle.rules.proofs.Conversion.{words-take, words-drop, add-adds, refresh-refreshes, toBool-rule, toArith-rule}
+use Rattle.rules.proofs.Conversion.{words-take, words-drop, add-adds, refresh-refreshes, toBool-rule, toArith-rule, toArith-opens, there-and-back, back-and-there}
 use Rattle.rules.proofs.MaskedHmac.{Keeps}
 use Rattle.rules.proofs.Sizes.{Sized, add-sizes, sha1-sizes, compress-sized, andDraws-twice, compress-count}
 use Rattle.rules.proofs.Opens.{Masks, sha1-opens, compress-opens}
@@ -39,6 +40,9 @@ pub data Says (A : Type 0) : Bool → Type 0 where
 says : (A : Type 0) (b : Bool) → (b ≡ true → A) → (b ≡ false → A → ⊥) → Says A b
 says A true is isnt = yes (is refl)
 says A false is isnt = no (isnt refl)
+
+pub untested : Says None true
+untested = yes tt
 
 pub says-eq : (a b : ℕ) → Says (a ≡ b) (eqb a b)
 says-eq a b = says (a ≡ b) (eqb a b) (eqb-true a b) (eqb-false a b)
@@ -122,11 +126,14 @@ module _ {d : ℕ} {P : List ℕ → Type 0} {rule : Draw (List ℕ)} (law : Rul
     as-long = omega (arith, length-take d vs, ap length same, length-take-le d ws enough)
 
 -- ---- a call on shares follows its rule, which has its law where the call's tests are passed
-module _ (n : ℕ) {Input Text : Type 0} {input text : Bool} (says-input : Says Input input) (says-text : Says Text text) (size d : ℕ)
-    {P : List ℕ → Type 0} (rule : Draw (List ℕ)) (law : Allowed n → Input → Text → Rule d P rule) where
+abbrev pub callOf : ℕ → Bool → ℕ → Bool → Draw (List ℕ) → OnShares
+callOf n input size text rule came =
+    call (test 1 (allowed n) ∷ test 2 input ∷ test 3 (eqb (length came) size) ∷ test 4 text ∷ []) rule came
+
+module _ (n size d : ℕ) {Input Text : Type 0} (input text : Bool) {P : List ℕ → Type 0} (rule : Draw (List ℕ))
+    (says-input : Says Input input) (says-text : Says Text text) (law : Allowed n → Input → Text → Rule d P rule) where
   abbrev of : OnShares
-  of came =
-      call (test 1 (allowed n) ∷ test 2 input ∷ test 3 (eqb (length came) size) ∷ test 4 text ∷ []) rule came
+  of = callOf n input size text rule
 
   module _ (came ws : List ℕ) where
     abbrev number : ℕ
@@ -146,14 +153,19 @@ module _ (n : ℕ) {Input Text : Type 0} {input text : Bool} (says-input : Says 
         let l = law (a .0) (a .1) (a .3) in
         rw (← alike l ws vs same (a .4), place l ws, le-leb d (length ws) (a .4), le-leb d (length vs) (as-long l ws vs same (a .4)))
 
-  pub follows : Follows n Input size Text d rule of
-  follows =
+  followed : Follows n Input size Text d rule of
+  followed =
       record {
         outcome = λ came ws.
             settles (number came ws) (rule ws 0) (came, 0) _ (number-is came ws) (settled-pair (number came ws) (rule ws 0) came 0);
         count = draws-so;
         past-draws = past;
       }
+
+pub follows : {n size d : ℕ} {Input Text : Type 0} {input text : Bool} {P : List ℕ → Type 0} {rule : Draw (List ℕ)}
+    → Says Input input → Says Text text → (Allowed n → Input → Text → Rule d P rule)
+    → Follows n Input size Text d rule (callOf n input size text rule)
+follows {n} {size} {d} {input = input} {text = text} {rule = rule} = followed n size d input text rule
 
 -- ---- the conditions leave one number
 -- the condition A, where it fails, gives m; else what R gives
@@ -180,12 +192,15 @@ pub exactly : {A B C D E : Type 0} {i j : ℕ} → Given A B C D E i → Given A
 exactly g h = only (only (only (only (only (λ p q. p ∙ sym q))))) (asks g) (asks h)
 
 -- ---- what a call makes, from what its rule makes where the call's tests are passed
-pub makes : {n size d : ℕ} {Input Text : Type 0} {rule : Draw (List ℕ)} {f : OnShares} (k : ℕ) (P : List ℕ → Type 0)
-    → Follows n Input size Text d rule f → (Allowed n → Input → Text → (ws : List ℕ) → Words k ws → P (rule ws 0 .0)) → Makes k f P
-makes k P follows law came ws w h =
-    let o = follows .outcome came ws in
-    let a = asked (o .given) h in
-    subst (λ (t : List ℕ × ℕ). P (t .0)) (sym (o .accepted-is h)) (law (a .0) (a .1) (a .3) ws w)
+module _ {n size d : ℕ} {Input Text : Type 0} {rule : Draw (List ℕ)} {f : OnShares} (follows : Follows n Input size Text d rule f) where
+  pub makes : (k : ℕ) (P : List ℕ → Type 0) → (Allowed n → Input → Text → (ws : List ℕ) → Words k ws → P (rule ws 0 .0)) → Makes k f P
+  makes k P law came ws w h =
+      let o = follows .outcome came ws in
+      let a = asked (o .given) h in
+      subst (λ (t : List ℕ × ℕ). P (t .0)) (sym (o .accepted-is h)) (law (a .0) (a .1) (a .3) ws w)
+
+  pub makes-as : {e : ℕ} {P : List ℕ → Type 0} (k : ℕ) → (Allowed n → Input → Text → Rule e P rule) → Makes k f P
+  makes-as {e} {P} k law = makes k P (λ c i t ws w. law c i t .makes ws 0)
 
 -- ---- the share counts
 module _ (n : ℕ) (count : Allowed n) where
@@ -210,6 +225,18 @@ module _ (n : ℕ) (count : Allowed n) where
         said
         (toArith-rule k (addDraws k) (add k) (add-adds k bits) refreshDraws refresh refresh-refreshes (power .0) x (size ∙ power .1) (opened-lt k x words))
         (ap (toArithDraws (addDraws k) refreshDraws) size) (λ z g. g ∙ size)
+
+    pub toArith-keeps : (ws : List ℕ) → Words k ws → openedSum k (toArith k (add k) refresh x ws 0 .0) ≡ opened x
+    toArith-keeps ws =
+        toArith-opens k (addDraws k) (add k) (add-adds k bits) refreshDraws refresh refresh-refreshes (power .0) x (size ∙ power .1) (opened-lt k x words) ws 0
+
+    pub there-back : (ws vs : List ℕ) → Words k ws → opened (toBool (add k) (toArith k (add k) refresh x ws 0 .0) vs 0 .0) ≡ opened x
+    there-back ws vs =
+        there-and-back k (addDraws k) (add k) (add-adds k bits) refreshDraws refresh refresh-refreshes (power .0) x (size ∙ power .1) (opened-lt k x words) ws vs 0 0
+
+    pub back-there : (ws vs : List ℕ) → Words k vs → openedSum k (toArith k (add k) refresh (toBool (add k) x ws 0 .0) vs 0 .0) ≡ openedSum k x
+    back-there ws vs =
+        back-and-there k (addDraws k) (add k) (add-adds k bits) refreshDraws refresh refresh-refreshes (power .0) x ws vs 0 0 (size ∙ power .1) words
 
 -- ---- counts in closed form
 pub and-count : (n : ℕ) → andDraws n ≡ n * (n - 1) / 2
@@ -273,7 +300,7 @@ module _ (n : ℕ) (chain : Chain) (block : List ℕ) (whole : length (chain .sh
     pub compress-number : Given (Allowed n) (length block ≡ 16 * n) None None (d ≤ length ws) (o .number)
     unfolding first
     compress-number =
-        given (says-count n) (says-eq (length block) (16 * n)) (yes tt) (yes tt)
+        given (says-count n) (says-eq (length block) (16 * n)) untested untested
         (λ c i n t. says-supply (compress-law c i) ws)
 
     -- ---- by that number: the new chain, or the one given
@@ -325,3 +352,9 @@ module _ (n : ℕ) (chain : Chain) (block : List ℕ) (whole : length (chain .sh
           ∙ compress-opens 32 n (some n c) (omega arith) (addDraws 32) (add 32) (add-adds 32 (omega arith)) h block ws 0 size (asks-for .1)
           (words-opened 32 n 5 h (words-take 32 (5 * n) (chain .shares) words)) (words-opened 32 n 16 block blocks)
           ∙ ap (λ t. compressOf 32 t (openWords n 16 block)) (open-used n (chain .shares) size))
+
+-- ---- demand 3, at what a recording call leaves: its number does not hang on what is recorded
+pub settled-independent : (k i m : ℕ) (steps : ℕ → ℕ → ℕ → List ℕ) (came : List ℕ) → Independent k (λ x r G. getD (steps x r G) i 0)
+    → Independent k (λ x r G. getD (settled m (steps x r G) came) i 0)
+settled-independent k i zero steps came h = h
+settled-independent k i (suc m) steps came h = λ x y v a b. refl
