@@ -7,11 +7,13 @@ use mathlib.Core.List.{List, [], _∷_, _++_}
 use mathlib.Core.Logic.{_⊎_, inl, inr}
 use native.Mathlib.Nat.{zero-add, suc-mul}
 use native.Mathlib.Omega.{arith}
+use lib.Bits.{bitXor, xor-comm}
 use lib.Dec.{eqb, leb}
 use lib.ListN.{length, getD, take, drop, replicate, length-take, length-drop, take-append-drop}
 use lib.Pow.{pow-pos}
 use lib.Seq.{length-take-le, getD-take, take-append-le, drop-append-le}
 use borrow.Author.Tests.{eqb-true, eqb-false, leb-true, leb-false, eq-eqb, le-leb}
+use Rattle.words.proofs.Words.{xor-back}
 use Rattle.rules.specs.declared.Chain.{Chain}
 use Rattle.rules.specs.declared.Compressed.{Compressed}
 use Rattle.rules.specs.Supply.{Draw, Agree, Rule, Shares, Words, opened, openedSum}
@@ -21,15 +23,17 @@ use Rattle.rules.specs.Shares.{refresh, add}
 use Rattle.rules.specs.Convert.{toBool, toArith}
 use Rattle.rules.specs.Standard.{compress as compressOf}
 use Rattle.rules.specs.Sha1.{openWords, compress, used, chainOf}
+use Rattle.rules.specs.Hmac.{hmacTag}
 use Rattle.rules.specs.Counts.{andDraws, addDraws, refreshDraws, toBoolDraws, toArithDraws, sha1}
-use Rattle.rules.specs.Calls.{call, compressCall}
+use Rattle.rules.specs.Calls.{call, compressCall, openCall, recordCall}
 use Rattle.rules.specs.Outcome.{Allowed, None, Given, done, one, two, three, four, five, Settles, OnShares, Follows, Makes}
 use Rattle.rules.proofs.Rule.{said, counted}
 use Rattle.rules.proofs.Openings.{opened-lt}
 use Rattle.rules.proofs.Conversion.{words-take, words-drop, add-adds, refresh-refreshes, toBool-rule, toArith-rule, toArith-opens, there-and-back, back-and-there}
 use Rattle.rules.proofs.MaskedHmac.{Keeps}
-use Rattle.rules.proofs.Sizes.{Sized, add-sizes, sha1-sizes, compress-sized, andDraws-twice, compress-count}
+use Rattle.rules.proofs.Sizes.{Sized, add-sizes, sha1-sizes, compress-sized, hmacTag-sized, andDraws-twice, compress-count}
 use Rattle.rules.proofs.Opens.{Masks, sha1-opens, compress-opens}
+use Rattle.rules.proofs.Tags.{sha1-proper}
 use Rattle.rules.proofs.Allowed.{within, power-of}
 
 -- ---- what a test says of the condition that it tests
@@ -50,10 +54,13 @@ says-eq a b = says (a ≡ b) (eqb a b) (eqb-true a b) (eqb-false a b)
 pub says-le : (a b : ℕ) → Says (a ≤ b) (leb a b)
 says-le a b = says (a ≤ b) (leb a b) (leb-true a b) (λ e h. omega (arith, leb-false a b e))
 
-pub says-both : {A B : Type 0} {a b : Bool} → Says A a → Says B b → Says (A × B) (both a b)
+says-both : {A B : Type 0} {a b : Bool} → Says A a → Says B b → Says (A × B) (both a b)
 says-both (yes p) (yes q) = yes (p, q)
 says-both (yes p) (no q) = no (λ h. q (h .1))
 says-both (no p) s = no (λ h. p (h .0))
+
+pub says-two : (n : ℕ) (x y : List ℕ) → Says ((length x ≡ n) × (length y ≡ n)) (both (eqb (length x) n) (eqb (length y) n))
+says-two n x y = says-both (says-eq (length x) n) (says-eq (length y) n)
 
 says-either : {A B : Type 0} {a b : Bool} → Says A a → Says B b → Says (A ⊎ B) (either a b)
 says-either (yes p) s = yes (inl p)
@@ -192,15 +199,17 @@ pub exactly : {A B C D E : Type 0} {i j : ℕ} → Given A B C D E i → Given A
 exactly g h = only (only (only (only (only (λ p q. p ∙ sym q))))) (asks g) (asks h)
 
 -- ---- what a call makes, from what its rule makes where the call's tests are passed
-module _ {n size d : ℕ} {Input Text : Type 0} {rule : Draw (List ℕ)} {f : OnShares} (follows : Follows n Input size Text d rule f) where
-  pub makes : (k : ℕ) (P : List ℕ → Type 0) → (Allowed n → Input → Text → (ws : List ℕ) → Words k ws → P (rule ws 0 .0)) → Makes k f P
-  makes k P law came ws w h =
-      let o = follows .outcome came ws in
-      let a = asked (o .given) h in
-      subst (λ (t : List ℕ × ℕ). P (t .0)) (sym (o .accepted-is h)) (law (a .0) (a .1) (a .3) ws w)
+module _ {n size d k : ℕ} {Input Text : Type 0} {rule : Draw (List ℕ)} {f : OnShares} {P : List ℕ → Type 0} where
+  pub makes : Follows n Input size Text d rule f → (Allowed n → Input → Text → (ws : List ℕ) → Words k ws → P (rule ws 0 .0)) → Makes k f P
+  makes follows law = record {
+    made = λ came ws w h.
+        let o = follows .outcome came ws in
+        let a = asked (o .given) h in
+        subst (λ (t : List ℕ × ℕ). P (t .0)) (sym (o .accepted-is h)) (law (a .0) (a .1) (a .3) ws w);
+  }
 
-  pub makes-as : {e : ℕ} {P : List ℕ → Type 0} (k : ℕ) → (Allowed n → Input → Text → Rule e P rule) → Makes k f P
-  makes-as {e} {P} k law = makes k P (λ c i t ws w. law c i t .makes ws 0)
+  pub makes-as : {e : ℕ} → Follows n Input size Text d rule f → (Allowed n → Input → Text → Rule e P rule) → Makes k f P
+  makes-as follows law = makes follows (λ c i t ws w. law c i t .makes ws 0)
 
 -- ---- the share counts
 module _ (n : ℕ) (count : Allowed n) where
@@ -270,11 +279,17 @@ words-opened k n (suc m) s w (suc i) = words-opened k n m (drop n s) (words-drop
 
 -- ---- SHA-1 in shares, at 32 bits
 module _ (n : ℕ) (count : Allowed n) where
-  pub sha1-size : Keeps (sha1 32) n (λ v. None) (Sized n)
+  sha1-size : Keeps (sha1 32) n (λ v. None) (Sized n)
   sha1-size = sha1-sizes 32 n (some n count) 32 (add 32) (add-sizes 32 (omega arith))
 
   pub sha1-keeps : Keeps (sha1 32) n (λ v. v < 2 ^ 32) (Masks 32 n)
   sha1-keeps = sha1-opens 32 n (some n count) (omega arith) (addDraws 32) (add 32) (add-adds 32 (omega arith)) 32 refl
+
+  pub hmacTag-law : (key text : List ℕ) → length key ≡ 16 * n
+      → Rule (((length text + 8) / 64 + 4) * (5220 * (n * (n - 1)))) (λ t. length t ≡ 20) (hmacTag (sha1 32) n key text)
+  hmacTag-law key text size =
+      counted (hmacTag-sized (sha1 32) n (some n count) sha1-size sha1-proper key text size)
+      (ap (λ d. ((length text + 8) / 64 + 4) * d) (compress-count n))
 
   length-used : (s : List ℕ) → length s ≡ 40 → length (used n s) ≡ 5 * n
   unfolding used
@@ -353,8 +368,28 @@ module _ (n : ℕ) (chain : Chain) (block : List ℕ) (whole : length (chain .sh
           (words-opened 32 n 5 h (words-take 32 (5 * n) (chain .shares) words)) (words-opened 32 n 16 block blocks)
           ∙ ap (λ t. compressOf 32 t (openWords n 16 block)) (open-used n (chain .shares) size))
 
--- ---- demand 3, at what a recording call leaves: its number does not hang on what is recorded
-pub settled-independent : (k i m : ℕ) (steps : ℕ → ℕ → ℕ → List ℕ) (came : List ℕ) → Independent k (λ x r G. getD (steps x r G) i 0)
-    → Independent k (λ x r G. getD (settled m (steps x r G) came) i 0)
-settled-independent k i zero steps came h = h
-settled-independent k i (suc m) steps came h = λ x y v a b. refl
+-- ---- openings and records
+pub open-settles : (n : ℕ) (x : List ℕ) (word : ℕ)
+    → (let o = openCall n x word in Settles (Allowed n) (length x ≡ n) None None None (o .number) word 0 (o .word))
+unfolding first
+open-settles n x word =
+    settles (openCall n x word .number) word 0 _ (given (says-count n) (says-eq (length x) n) untested untested (λ c i o t. untested)) refl
+
+pub record-settles : (size : ℕ) (steps came : List ℕ)
+    → (let o = recordCall size steps came in Settles None None (length came ≡ size) None None (o .0) steps came (o .1))
+unfolding first
+record-settles size steps came =
+    settles (recordCall size steps came .0) steps came _ (given untested untested (says-eq (length came) size) untested (λ c i o t. untested)) refl
+
+-- demand 3, at what a recording call leaves: its number does not hang on what is recorded
+pub record-independent : (k i size : ℕ) (steps : ℕ → ℕ → ℕ → List ℕ) (came : List ℕ) → Independent k (λ x r G. getD (steps x r G) i 0)
+    → Independent k (λ x r G. getD (recordCall size (steps x r G) came .1) i 0)
+record-independent k i size steps came h = go (recordCall size [] came .0)
+  where
+    go : (number : ℕ) → Independent k (λ x r G. getD (settled number (steps x r G) came) i 0)
+    go zero = h
+    go (suc m) = λ x y v a b. refl
+
+-- ---- two shares
+pub xor-off : (a b : ℕ) → bitXor (bitXor a b) b ≡ a
+xor-off a b = xor-comm (bitXor a b) b ∙ ap (bitXor b) (xor-comm a b) ∙ xor-back b a

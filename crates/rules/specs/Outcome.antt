@@ -43,6 +43,6 @@ pub record Follows (n : ℕ) (Input : Type 0) (size : ℕ) (Text : Type 0) (d : 
   -- words after those that it drew have no influence on its answer: a supply with the same first d words gives the same outcome
   pub past-draws : (came ws vs : List ℕ) → call came ws .0 .number ≡ 0 → take d ws ≡ take d vs → call came ws ≡ call came vs
 
--- whatever the words are, what an accepted call hands back is as P says
-abbrev pub Makes : ℕ → OnShares → (List ℕ → Type 0) → Type 0
-Makes k call P = (came ws : List ℕ) → Words k ws → call came ws .0 .number ≡ 0 → P (call came ws .1)
+-- whatever words it draws from, what it hands back where it is accepted is as P says
+pub record Makes (k : ℕ) (call : OnShares) (P : List ℕ → Type 0) : Type 0 where
+  pub made : (came ws : List ℕ) → Words k ws → call came ws .0 .number ≡ 0 → P (call came ws .1)
