@@ -27,17 +27,16 @@ use Rattle.rules.specs.Counts.{addDraws, toBoolDraws, sha1}
 use Rattle.rules.specs.Calls.{b2aTwo, a2bTwo, b2aRecordCall, a2bRecordCall, splitCall, openXorCall, openSumCall, refreshCall}
 use Rattle.rules.specs.Calls.{expandCall, andCall, addCall, a2bCall, b2aCall, splitKeyCall, compressCall, hmacCall}
 use Rattle.rules.specs.Outcome.{Allowed, None, Given, Settles, Follows, Makes}
-use Rattle.rules.proofs.Outcomes.{untested, says-eq, says-le, says-two, exactly, follows, makes, makes-as, open-settles}
-use Rattle.rules.proofs.Outcomes.{some, and-count, add-count, toBool-law, toArith-law, toArith-keeps, there-back, back-there}
-use Rattle.rules.proofs.Outcomes.{hmacTag-law, sha1-keeps, compress-outcome, compress-drawn, compress-past, compress-opens-to}
-use Rattle.rules.proofs.Outcomes.{record-settles, record-independent, xor-off}
+use Rattle.rules.proofs.Outcomes.{untested, says-eq, says-le, says-two, exactly, follows, makes, makes-as}
+use Rattle.rules.proofs.Outcomes.{open-settles, record-settles, record-independent}
+use Rattle.rules.proofs.AtCalls.{some, and-count, add-count, expand-law, toBool-law, toArith-law, toArith-sums, there-back}
+use Rattle.rules.proofs.AtCalls.{back-there, splitKey-law, hmacTag-law, tags, xor-off}
+use Rattle.rules.proofs.AtCalls.{compress-outcome, compress-drawn, compress-past, compress-opens-to}
 use Rattle.rules.proofs.Rule.{counted}
 use Rattle.rules.proofs.Openings.{opened-lt}
 use Rattle.rules.proofs.Pairs.{refresh-rule, and-rule}
-use Rattle.rules.proofs.Addition.{add-loop-rule, add-rule, expand-rule, split-rule}
+use Rattle.rules.proofs.Addition.{add-loop-rule, add-rule, split-rule}
 use Rattle.rules.proofs.Conversion.{draws-one, draws-more}
-use Rattle.rules.proofs.Sizes.{splitKey-sized}
-use Rattle.rules.proofs.Tags.{sha1-proper, splitKey-opens, hmacTag-is}
 use Rattle.rules.proofs.Ends.{b2a-ends, a2b-ends}
 use Rattle.rules.proofs.Demand3.{b2a-independent, a2b-independent}
 use Rattle.rules.proofs.Calls.{one-outcome}
@@ -85,15 +84,13 @@ calls-follow n =
     record {
       split-follows = λ value. follows untested untested (λ c i t. split-rule n value (some n c));
       refresh-follows = λ x. follows (says-eq (length x) n) untested (λ c i t. refresh-rule n x i);
-      expand-follows = λ x. follows (says-eq (length x) n) untested (λ c i t. expand-rule n x i);
+      expand-follows = λ x. follows (says-eq (length x) n) untested (λ c i t. expand-law n x i);
       and-follows = λ x y. follows (says-two n x y) untested (λ c i t. counted (and-rule n x y (i .0) (i .1)) (and-count n));
       add-follows = λ x y.
           follows (says-two n x y) untested (λ c i t. counted (add-loop-rule 32 n x y (lit< tt) (i .0) (i .1)) (add-count n));
-      a2b-follows = λ a u. follows (says-eq (length a) n) untested (λ c i t. toBool-law n c 32 (lit< tt) a i u);
-      b2a-follows = λ x u.
-          follows (says-eq (length x) n) untested
-          (λ c i t. counted (toArith-law n c 32 (lit< tt) x i u) (omega (arith, add-count n)));
-      split-key-follows = λ key. follows untested (says-le (length key) 64) (λ c i t. splitKey-sized (SHA1 32) n key (some n c));
+      a2b-follows = λ a u. follows (says-eq (length a) n) untested (λ c i t. toBool-law n c a i u);
+      b2a-follows = λ x u. follows (says-eq (length x) n) untested (λ c i t. toArith-law n c x i u);
+      split-key-follows = λ key. follows untested (says-le (length key) 64) (λ c i t. splitKey-law n c key);
       hmac-follows = λ key text.
           follows (says-eq (length key) (16 * n)) (says-le (length text) 4096) (λ c i t. hmacTag-law n c key text i);
     }
@@ -149,9 +146,7 @@ pub refresh-keeps : (n : ℕ) (x : List ℕ) → Makes 32 (refreshCall n x) (Sha
 refresh-keeps n x = makes-as (calls-follow n .refresh-follows x) (λ c i t. refresh-rule n x i)
 
 pub expand-keeps : (n : ℕ) (x : List ℕ) → Makes 32 (expandCall n x) (Shares (2 * n) (opened x))
-expand-keeps n x =
-    makes (calls-follow n .expand-follows x)
-    (λ c i t ws w. let g = expand-rule n x i .makes ws 0 in (g .0 ∙ omega arith, g .1))
+expand-keeps n x = makes-as (calls-follow n .expand-follows x) (λ c i t. expand-law n x i)
 
 pub and-ands : (n : ℕ) (x y : List ℕ) → Makes 32 (andCall n x y) (Shares n (bitAnd (opened x) (opened y)))
 and-ands n x y = makes-as (calls-follow n .and-follows x y) (λ c i t. and-rule n x y (i .0) (i .1))
@@ -165,34 +160,25 @@ add-adds n x y u v =
 
 -- Both conversions keep the secret, and so does going there and back, whatever words either draws.
 pub a2b-keeps : (n : ℕ) (a : List ℕ) → Words 32 a → Makes 32 (a2bCall 32 n a) (Shares n (total a % 2 ^ 32))
-a2b-keeps n a u = makes-as (calls-follow n .a2b-follows a u) (λ c i t. toBool-law n c 32 (lit< tt) a i u)
+a2b-keeps n a u = makes-as (calls-follow n .a2b-follows a u) (λ c i t. toBool-law n c a i u)
 
 pub b2a-keeps : (n : ℕ) (x : List ℕ) → Words 32 x
     → Makes 32 (b2aCall 32 n x) (λ a. (length a ≡ n) × (total a % 2 ^ 32 ≡ opened x))
 b2a-keeps n x u =
-    makes (calls-follow n .b2a-follows x u)
-    (λ c i t ws w. (toArith-law n c 32 (lit< tt) x i u .makes ws 0, toArith-keeps n c 32 (lit< tt) x i u ws w))
+    makes (calls-follow n .b2a-follows x u) (λ c i t ws w. (toArith-law n c x i u .makes ws 0, toArith-sums n c x i u ws w))
 
 pub there-and-back : (n : ℕ) (x : List ℕ) → Words 32 x
     → Makes 32 (b2aCall 32 n x) (λ a. Makes 32 (a2bCall 32 n a) (λ y. opened y ≡ opened x))
-there-and-back n x u =
-    makes (calls-follow n .b2a-follows x u)
-    (λ c i t ws w. record { made = λ came vs w′ h. rw h (there-back n c 32 (lit< tt) x i u ws vs w) })
+there-and-back n x u = makes (calls-follow n .b2a-follows x u) (λ c i t. there-back n c x i u)
 
 pub back-and-there : (n : ℕ) (a : List ℕ) → Words 32 a
     → Makes 32 (a2bCall 32 n a) (λ x. Makes 32 (b2aCall 32 n x) (λ b. total b % 2 ^ 32 ≡ total a % 2 ^ 32))
-back-and-there n a u =
-    makes (calls-follow n .a2b-follows a u)
-    (λ c i t ws w. record { made = λ came vs w′ h. rw h (back-there n c 32 (lit< tt) a i u ws vs w′) })
+back-and-there n a u = makes (calls-follow n .a2b-follows a u) (λ c i t. back-there n c a i u)
 
 -- Splitting a key and tagging with its shares gives the bytes of RFC 2104 over FIPS 180-4, for all keys, messages and words.
 pub tag-is-rfc2104 : (n : ℕ) (key text : List ℕ) → Words 8 key → Words 8 text
     → Makes 32 (splitKeyCall n key) (λ shares. Makes 32 (hmacCall 32 n shares text) (λ tag. tag ≡ hmac (SHA1 32) key text))
-tag-is-rfc2104 n key text keys texts =
-    makes (calls-follow n .split-key-follows key) (λ c i short ws w. record { made = λ came vs w′ h.
-    rw h
-    (hmacTag-is (sha1 32) n (some n c) sha1-proper (sha1-keeps n c) key text (splitKey (SHA1 32) n key ws 0 .0) vs 0 short keys texts
-    (splitKey-sized (SHA1 32) n key (some n c) .makes ws 0) (splitKey-opens (SHA1 32) n key ws 0 (some n c))) })
+tag-is-rfc2104 n key text u v = makes (calls-follow n .split-key-follows key) (λ c i t ws w. tags n c key text u v t ws)
 
 -- The working two-share forms keep the secret, and are what the recording forms end in, whatever the fresh word is.
 pub b2a-two-keeps : (x′ r : ℕ) → x′ < 2 ^ 32 → r < 2 ^ 32 → (b2aTwo 32 x′ r + r) % 2 ^ 32 ≡ bitXor x′ r

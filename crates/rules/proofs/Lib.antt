@@ -19,3 +19,4 @@ pub mod Sizes
 pub mod Opens
 pub mod Tags
 pub mod Outcomes
+pub mod AtCalls

@@ -1,40 +1,21 @@
--- What a call comes to, over any tests and any rule: which number it gives, what it leaves, and which words have no say in it.
--- crates/claims says it of each call.
-use Prim.Native.Nat.{ℕ, zero, suc, _+_, _-_, _*_, _/_, _^_, _≤_, _<_}
+-- What a call comes to, over any tests and any rule: which number it gives, what it leaves, which words have no say in it, what it
+-- makes. crates/claims says it of each call.
+use Prim.Native.Nat.{ℕ, zero, suc, _+_, _≤_}
 use mathlib.Core.Path.{_≡_, refl, sym, ap, _∙_, subst}
 use mathlib.Core.Bool.{Bool, true, false}
-use mathlib.Core.List.{List, [], _∷_, _++_}
+use mathlib.Core.List.{List, [], _∷_}
 use mathlib.Core.Logic.{_⊎_, inl, inr}
-use native.Mathlib.Nat.{zero-add, suc-mul}
+use native.Mathlib.Nat.{zero-add}
 use native.Mathlib.Omega.{arith}
-use lib.Bits.{bitXor, xor-comm}
 use lib.Dec.{eqb, leb}
-use lib.ListN.{length, getD, take, drop, replicate, length-take, length-drop, take-append-drop}
-use lib.Pow.{pow-pos}
-use lib.Seq.{length-take-le, getD-take, take-append-le, drop-append-le}
-use borrow.Author.Tests.{eqb-true, eqb-false, leb-true, leb-false, eq-eqb, le-leb}
-use Rattle.words.proofs.Words.{xor-back}
-use Rattle.rules.specs.declared.Chain.{Chain}
-use Rattle.rules.specs.declared.Compressed.{Compressed}
-use Rattle.rules.specs.Supply.{Draw, Agree, Rule, Shares, Words, opened, openedSum}
-use Rattle.rules.specs.Numbers.{either, both, allowed, Test, test, first, settled}
+use lib.ListN.{length, getD, take, length-take}
+use lib.Seq.{length-take-le, getD-take}
+use borrow.Author.Tests.{eqb-true, eqb-false, leb-true, leb-false, le-leb}
+use Rattle.rules.specs.Supply.{Draw, Rule, Words}
+use Rattle.rules.specs.Numbers.{either, both, allowed, test, first, settled}
 use Rattle.rules.specs.Independent.{Independent}
-use Rattle.rules.specs.Shares.{refresh, add}
-use Rattle.rules.specs.Convert.{toBool, toArith}
-use Rattle.rules.specs.Standard.{compress as compressOf}
-use Rattle.rules.specs.Sha1.{openWords, compress, used, chainOf}
-use Rattle.rules.specs.Hmac.{hmacTag}
-use Rattle.rules.specs.Counts.{andDraws, addDraws, refreshDraws, toBoolDraws, toArithDraws, sha1}
-use Rattle.rules.specs.Calls.{call, compressCall, openCall, recordCall}
+use Rattle.rules.specs.Calls.{call, openCall, recordCall}
 use Rattle.rules.specs.Outcome.{Allowed, None, Given, done, one, two, three, four, five, Settles, OnShares, Follows, Makes}
-use Rattle.rules.proofs.Rule.{said, counted}
-use Rattle.rules.proofs.Openings.{opened-lt}
-use Rattle.rules.proofs.Conversion.{words-take, words-drop, add-adds, refresh-refreshes, toBool-rule, toArith-rule, toArith-opens, there-and-back, back-and-there}
-use Rattle.rules.proofs.MaskedHmac.{Keeps}
-use Rattle.rules.proofs.Sizes.{Sized, add-sizes, sha1-sizes, compress-sized, hmacTag-sized, andDraws-twice, compress-count}
-use Rattle.rules.proofs.Opens.{Masks, sha1-opens, compress-opens}
-use Rattle.rules.proofs.Tags.{sha1-proper}
-use Rattle.rules.proofs.Allowed.{within, power-of}
 
 -- ---- what a test says of the condition that it tests
 pub data Says (A : Type 0) : Bool → Type 0 where
@@ -110,26 +91,26 @@ asked (three c i p) h = absurd (omega arith)
 asked (four c i o p) h = absurd (omega arith)
 asked (five c i o t p) h = absurd (omega arith)
 
-settled-pair : {A B : Type 0} (number : ℕ) (a : A × B) (c : A) (d : B)
+pub settled-pair : {A B : Type 0} (number : ℕ) (a : A × B) (c : A) (d : B)
     → (settled number (a .0) c, settled number (a .1) d) ≡ settled number a (c, d)
 settled-pair zero a c d = refl
 settled-pair (suc number) a c d = refl
 
 -- ---- a rule from place 0
 module _ {d : ℕ} {P : List ℕ → Type 0} {rule : Draw (List ℕ)} (law : Rule d P rule) (ws : List ℕ) where
-  place : rule ws 0 .1 ≡ d
+  pub place : rule ws 0 .1 ≡ d
   place = law .place ws 0 ∙ zero-add d
 
-  says-supply : Says (d ≤ length ws) (leb (rule ws 0 .1) (length ws))
+  pub says-supply : Says (d ≤ length ws) (leb (rule ws 0 .1) (length ws))
   says-supply = rw place (says-le d (length ws))
 
   -- a supply with the same first words
   module _ (vs : List ℕ) (same : take d ws ≡ take d vs) (enough : d ≤ length ws) where
-    alike : rule ws 0 ≡ rule vs 0
+    pub alike : rule ws 0 ≡ rule vs 0
     alike =
         law .same ws vs 0 (λ i h l. sym (getD-take d ws i 0 (omega arith)) ∙ ap (λ t. getD t i 0) same ∙ getD-take d vs i 0 (omega arith))
 
-    as-long : d ≤ length vs
+    pub as-long : d ≤ length vs
     as-long = omega (arith, length-take d vs, ap length same, length-take-le d ws enough)
 
 -- ---- a call on shares follows its rule, which has its law where the call's tests are passed
@@ -211,163 +192,6 @@ module _ {n size d k : ℕ} {Input Text : Type 0} {rule : Draw (List ℕ)} {f : 
   pub makes-as : {e : ℕ} → Follows n Input size Text d rule f → (Allowed n → Input → Text → Rule e P rule) → Makes k f P
   makes-as follows law = makes follows (λ c i t ws w. law c i t .makes ws 0)
 
--- ---- the share counts
-module _ (n : ℕ) (count : Allowed n) where
-  ok : allowed n ≡ true
-  ok = passed (says-count n) count
-
-  pub some : 0 < n
-  some = within n ok .0
-
-  power : (p : ℕ) × (n ≡ 2 ^ p)
-  power = power-of n ok
-
-  -- ---- the conversions, of so many shares
-  module _ (k : ℕ) (bits : 0 < k) (x : List ℕ) (size : length x ≡ n) (words : Words k x) where
-    pub toBool-law : Rule (toBoolDraws (addDraws k) n) (Shares n (openedSum k x)) (toBool (add k) x)
-    toBool-law =
-        said (toBool-rule k (addDraws k) (add k) (add-adds k bits) (power .0) x (size ∙ power .1) words)
-        (ap (toBoolDraws (addDraws k)) size) (λ z g. (g .0 ∙ size, g .1))
-
-    pub toArith-law : Rule (toArithDraws (addDraws k) refreshDraws n) (λ z. length z ≡ n) (toArith k (add k) refresh x)
-    toArith-law =
-        said
-        (toArith-rule k (addDraws k) (add k) (add-adds k bits) refreshDraws refresh refresh-refreshes (power .0) x (size ∙ power .1) (opened-lt k x words))
-        (ap (toArithDraws (addDraws k) refreshDraws) size) (λ z g. g ∙ size)
-
-    pub toArith-keeps : (ws : List ℕ) → Words k ws → openedSum k (toArith k (add k) refresh x ws 0 .0) ≡ opened x
-    toArith-keeps ws =
-        toArith-opens k (addDraws k) (add k) (add-adds k bits) refreshDraws refresh refresh-refreshes (power .0) x (size ∙ power .1) (opened-lt k x words) ws 0
-
-    pub there-back : (ws vs : List ℕ) → Words k ws → opened (toBool (add k) (toArith k (add k) refresh x ws 0 .0) vs 0 .0) ≡ opened x
-    there-back ws vs =
-        there-and-back k (addDraws k) (add k) (add-adds k bits) refreshDraws refresh refresh-refreshes (power .0) x (size ∙ power .1) (opened-lt k x words) ws vs 0 0
-
-    pub back-there : (ws vs : List ℕ) → Words k vs → openedSum k (toArith k (add k) refresh (toBool (add k) x ws 0 .0) vs 0 .0) ≡ openedSum k x
-    back-there ws vs =
-        back-and-there k (addDraws k) (add k) (add-adds k bits) refreshDraws refresh refresh-refreshes (power .0) x ws vs 0 0 (size ∙ power .1) words
-
--- ---- counts in closed form
-pub and-count : (n : ℕ) → andDraws n ≡ n * (n - 1) / 2
-unfolding andDraws
-and-count zero = refl
-and-count (suc m) = let e : suc m - 1 ≡ m = omega arith in rw e (omega (arith, andDraws-twice m))
-
-pub add-count : (n : ℕ) → addDraws 32 n ≡ 16 * (n * (n - 1))
-unfolding andDraws
-add-count zero = refl
-add-count (suc m) = let e : suc m - 1 ≡ m = omega arith in rw e (omega (arith, andDraws-twice m))
-
--- ---- several words, opened
-pub open-front : (n m : ℕ) (s t : List ℕ) → length s ≡ m * n → openWords n m (s ++ t) ≡ openWords n m s
-unfolding openWords
-open-front n zero s t h = refl
-open-front n (suc m) s t h =
-    let l : n ≤ length s = omega (arith, suc-mul m n) in
-    rw (take-append-le n s t l, drop-append-le n s t l)
-    (ap (λ (u : List ℕ). opened (take n s) ∷ u) (open-front n m (drop n s) t (length-drop n s ∙ omega (arith, suc-mul m n))))
-
-open-used : (n : ℕ) (s : List ℕ) → length (used n s) ≡ 5 * n → openWords n 5 (used n s) ≡ openWords n 5 s
-unfolding used
-open-used n s h = sym (open-front n 5 (take (5 * n) s) (drop (5 * n) s) h) ∙ ap (openWords n 5) (take-append-drop (5 * n) s)
-
-pub words-opened : (k n m : ℕ) (s : List ℕ) → Words k s → Words k (openWords n m s)
-unfolding openWords
-words-opened k n zero s w i = pow-pos k
-words-opened k n (suc m) s w zero = opened-lt k (take n s) (words-take k n s w)
-words-opened k n (suc m) s w (suc i) = words-opened k n m (drop n s) (words-drop k n s w) i
-
--- ---- SHA-1 in shares, at 32 bits
-module _ (n : ℕ) (count : Allowed n) where
-  sha1-size : Keeps (sha1 32) n (λ v. None) (Sized n)
-  sha1-size = sha1-sizes 32 n (some n count) 32 (add 32) (add-sizes 32 (omega arith))
-
-  pub sha1-keeps : Keeps (sha1 32) n (λ v. v < 2 ^ 32) (Masks 32 n)
-  sha1-keeps = sha1-opens 32 n (some n count) (omega arith) (addDraws 32) (add 32) (add-adds 32 (omega arith)) 32 refl
-
-  pub hmacTag-law : (key text : List ℕ) → length key ≡ 16 * n
-      → Rule (((length text + 8) / 64 + 4) * (5220 * (n * (n - 1)))) (λ t. length t ≡ 20) (hmacTag (sha1 32) n key text)
-  hmacTag-law key text size =
-      counted (hmacTag-sized (sha1 32) n (some n count) sha1-size sha1-proper key text size)
-      (ap (λ d. ((length text + 8) / 64 + 4) * d) (compress-count n))
-
-  length-used : (s : List ℕ) → length s ≡ 40 → length (used n s) ≡ 5 * n
-  unfolding used
-  length-used s whole = length-take-le (5 * n) s (omega (arith, within n (ok n count) .1))
-
--- one compression: a call whose output is a chain
-module _ (n : ℕ) (chain : Chain) (block : List ℕ) (whole : length (chain .shares) ≡ 40) where
-  abbrev d : ℕ
-  d = 5220 * (n * (n - 1))
-
-  abbrev rule : Draw (List ℕ)
-  rule = compress 32 (add 32) n (used n (chain .shares)) block
-
-  compress-law : Allowed n → length block ≡ 16 * n → Rule d (λ z. length z ≡ 5 * n) rule
-  compress-law c e =
-      counted (compress-sized (sha1 32) n (some n c) (sha1-size n c) (used n (chain .shares)) block (length-used n c (chain .shares) whole) e)
-      (compress-count n)
-
-  module _ (ws : List ℕ) where
-    abbrev o : Compressed
-    o = compressCall 32 n chain block ws
-
-    pub compress-number : Given (Allowed n) (length block ≡ 16 * n) None None (d ≤ length ws) (o .number)
-    unfolding first
-    compress-number =
-        given (says-count n) (says-eq (length block) (16 * n)) untested untested
-        (λ c i n t. says-supply (compress-law c i) ws)
-
-    -- ---- by that number: the new chain, or the one given
-    pub compress-outcome : (let made = rule ws 0 in
-        Settles {A = Chain × ℕ} (Allowed n) (length block ≡ 16 * n) None None (d ≤ length ws) (o .number)
-        (record { shares = made .0 ++ replicate (40 - 5 * n) 0 }, made .1) (chain, 0) (o .chain, o .drawn))
-    unfolding chainOf
-    compress-outcome =
-        let made = rule ws 0 in
-        settles (o .number) (record { shares = chainOf n (made .0) }, made .1) (chain, 0) _ compress-number
-        (settled-pair (o .number) (record { shares = chainOf n (made .0) }, made .1) chain 0)
-
-    module _ (accepted : o .number ≡ 0) where
-      asks-for : Allowed n × (length block ≡ 16 * n) × None × None × (d ≤ length ws)
-      asks-for = asked compress-number accepted
-
-      law : Rule d (λ z. length z ≡ 5 * n) rule
-      law = compress-law (asks-for .0) (asks-for .1)
-
-      pub compress-drawn : o .drawn ≡ d
-      compress-drawn = rw accepted (place law ws)
-
-      -- what stands after the 5n words of the chain, and after the words drawn, has no say
-      pub compress-past : (other : Chain) (vs : List ℕ) → take (5 * n) (chain .shares) ≡ take (5 * n) (other .shares) → take d ws ≡ take d vs
-          → o ≡ compressCall 32 n other block vs
-      unfolding first used
-      compress-past other vs front same =
-          let enough = asks-for .4 in
-          rw (
-            ← front,
-            ← alike law ws vs same enough,
-            place law ws,
-            ok n (asks-for .0),
-            eq-eqb (length block) (16 * n) (asks-for .1),
-            le-leb d (length ws) enough,
-            le-leb d (length vs) (as-long law ws vs same enough),
-          )
-
-      pub compress-opens-to : Words 32 (chain .shares) → Words 32 block
-          → openWords n 5 (o .chain .shares) ≡ compressOf 32 (openWords n 5 (chain .shares)) (openWords n 16 block)
-      unfolding chainOf used
-      compress-opens-to words blocks =
-          let c = asks-for .0 in
-          let made = rule ws 0 .0 in
-          let h = used n (chain .shares) in
-          let size = length-used n c (chain .shares) whole in
-          rw accepted
-          (open-front n 5 made (replicate (40 - 5 * n) 0) (law .makes ws 0)
-          ∙ compress-opens 32 n (some n c) (omega arith) (addDraws 32) (add 32) (add-adds 32 (omega arith)) h block ws 0 size (asks-for .1)
-          (words-opened 32 n 5 h (words-take 32 (5 * n) (chain .shares) words)) (words-opened 32 n 16 block blocks)
-          ∙ ap (λ t. compressOf 32 t (openWords n 16 block)) (open-used n (chain .shares) size))
-
 -- ---- openings and records
 pub open-settles : (n : ℕ) (x : List ℕ) (word : ℕ)
     → (let o = openCall n x word in Settles (Allowed n) (length x ≡ n) None None None (o .number) word 0 (o .word))
@@ -389,7 +213,3 @@ record-independent k i size steps came h = go (recordCall size [] came .0)
     go : (number : ℕ) → Independent k (λ x r G. getD (settled number (steps x r G) came) i 0)
     go zero = h
     go (suc m) = λ x y v a b. refl
-
--- ---- two shares
-pub xor-off : (a b : ℕ) → bitXor (bitXor a b) b ≡ a
-xor-off a b = xor-comm (bitXor a b) b ∙ ap (bitXor b) (xor-comm a b) ∙ xor-back b a
