@@ -1,12 +1,12 @@
--- The rules where the calls' tests are passed, 1, 2, 4 or 8 shares of 32 bits, with their counts in closed form; and what a
--- compression comes to. crates/claims takes them to the calls.
+-- The rules where a call's tests are passed, of 1, 2, 4 or 8 shares of 32 bits, with their counts in closed form; and what
+-- a compression comes to. crates/claims takes them to the calls.
 use Prim.Native.Nat.{ℕ, zero, suc, _+_, _-_, _*_, _/_, _%_, _^_, _≤_, _<_}
 use mathlib.Core.Path.{_≡_, refl, sym, ap, _∙_}
 use mathlib.Core.Bool.{true}
 use mathlib.Core.List.{List, _∷_, _++_}
 use native.Mathlib.Nat.{suc-mul}
 use native.Mathlib.Omega.{arith}
-use lib.Bits.{bitXor, xor-comm}
+use lib.Bits.{bitXor, bitAnd, xor-comm}
 use lib.Dec.{lit<, lit≤}
 use lib.ListN.{length, take, drop, replicate, length-drop, take-append-drop}
 use lib.Pow.{pow-pos}
@@ -28,20 +28,21 @@ use Rattle.rules.specs.Calls.{compressCall, a2bCall, b2aCall, hmacCall}
 use Rattle.rules.specs.Outcome.{Allowed, None, Given, Settles, Makes}
 use Rattle.rules.proofs.Rule.{said, counted}
 use Rattle.rules.proofs.Openings.{opened-lt}
+use Rattle.rules.proofs.Pairs.{and-rule}
 use Rattle.rules.proofs.Addition.{expand-rule}
-use Rattle.rules.proofs.Conversion.{Adds, words-take, words-drop, add-adds, refresh-refreshes, toBool-rule, toArith-rule}
-use Rattle.rules.proofs.Conversion.{toArith-opens, there-and-back, back-and-there}
+use Rattle.rules.proofs.Conversion.{Adds, words-take, words-drop, add-adds, refresh-refreshes, toBool-rule}
+use Rattle.rules.proofs.Conversion.{toArith-rule, toArith-opens, there-and-back, back-and-there}
 use Rattle.rules.proofs.Allowed.{within, power-of}
 use Rattle.rules.proofs.MaskedHmac.{Keeps}
-use Rattle.rules.proofs.Sizes.{Sized, add-sizes, sha1-sizes, compress-sized, hmacTag-sized, splitKey-sized, andDraws-twice}
-use Rattle.rules.proofs.Sizes.{compress-count}
+use Rattle.rules.proofs.Sizes.{Sized, add-sizes, sha1-sizes, compress-sized, hmacTag-sized, splitKey-sized}
+use Rattle.rules.proofs.Sizes.{andDraws-twice, compress-count}
 use Rattle.rules.proofs.Opens.{Masks, sha1-opens, compress-opens}
 use Rattle.rules.proofs.Tags.{sha1-proper, splitKey-opens, hmacTag-is}
-use Rattle.rules.proofs.Outcomes.{says-count, says-eq, untested, passed, given, settles, settled-pair, asked, place, says-supply}
-use Rattle.rules.proofs.Outcomes.{alike, as-long}
+use Rattle.rules.proofs.Outcomes.{says-count, says-eq, untested, passed, given, settles, settled-pair, asked}
+use Rattle.rules.proofs.Outcomes.{place, says-supply, alike, as-long}
 
 -- ---- counts in closed form
-pub and-count : (n : ℕ) → andDraws n ≡ n * (n - 1) / 2
+and-count : (n : ℕ) → andDraws n ≡ n * (n - 1) / 2
 unfolding andDraws
 and-count zero = refl
 and-count (suc m) = let e : suc m - 1 ≡ m = omega arith in rw e (omega (arith, andDraws-twice m))
@@ -51,8 +52,16 @@ unfolding andDraws
 add-count zero = refl
 add-count (suc m) = let e : suc m - 1 ≡ m = omega arith in rw e (omega (arith, andDraws-twice m))
 
+-- ---- the rules that draw a word for each share or pair
 pub expand-law : (n : ℕ) (x : List ℕ) → length x ≡ n → Rule n (Shares (2 * n) (opened x)) (expand x)
 expand-law n x size = said (expand-rule n x size) refl (λ z g. (g .0 ∙ omega arith, g .1))
+
+module _ (n : ℕ) (x y : List ℕ) (sizes : (length x ≡ n) × (length y ≡ n)) where
+  pub and-law : Rule (n * (n - 1) / 2) (Shares n (bitAnd (opened x) (opened y))) (and x y)
+  and-law = counted (and-rule n x y (sizes .0) (sizes .1)) (and-count n)
+
+  pub add-law : Rule (16 * (n * (n - 1))) (λ z. length z ≡ n) (add 32 x y)
+  add-law = counted (add-sizes 32 (lit< tt) n x y (sizes .0) (sizes .1)) (add-count n)
 
 adds : Adds 32 (addDraws 32) (add 32)
 adds = add-adds 32 (lit< tt)
@@ -78,14 +87,18 @@ module _ (n : ℕ) (count : Allowed n) where
         said (toBool-rule 32 (addDraws 32) (add 32) adds p x sized words)
         (ap (toBoolDraws (addDraws 32)) size) (λ z g. (g .0 ∙ size, g .1))
 
-    pub toArith-law : Rule (2 * (n - 1) + toBoolDraws (addDraws 32) n + 16 * (n * (n - 1))) (λ a. length a ≡ n) (toArith 32 (add 32) refresh x)
+    small : opened x < 2 ^ 32
+    small = opened-lt 32 x words
+
+    pub toArith-law :
+        Rule (2 * (n - 1) + toBoolDraws (addDraws 32) n + 16 * (n * (n - 1))) (λ a. length a ≡ n) (toArith 32 (add 32) refresh x)
     toArith-law =
-        said (toArith-rule 32 (addDraws 32) (add 32) adds refreshDraws refresh refresh-refreshes p x sized (opened-lt 32 x words))
+        said (toArith-rule 32 (addDraws 32) (add 32) adds refreshDraws refresh refresh-refreshes p x sized small)
         (ap (toArithDraws (addDraws 32) refreshDraws) size ∙ omega (arith, add-count n)) (λ z g. g ∙ size)
 
     pub toArith-sums : (ws : List ℕ) → Words 32 ws → total (toArith 32 (add 32) refresh x ws 0 .0) % 2 ^ 32 ≡ opened x
     toArith-sums ws =
-        toArith-opens 32 (addDraws 32) (add 32) adds refreshDraws refresh refresh-refreshes p x sized (opened-lt 32 x words) ws 0
+        toArith-opens 32 (addDraws 32) (add 32) adds refreshDraws refresh refresh-refreshes p x sized small ws 0
 
     pub there-back : (ws : List ℕ) → Words 32 ws
         → Makes 32 (a2bCall 32 n (toArith 32 (add 32) refresh x ws 0 .0)) (λ y. opened y ≡ opened x)
@@ -93,7 +106,7 @@ module _ (n : ℕ) (count : Allowed n) where
         record {
           made = λ came vs w′ h.
               rw h
-              (there-and-back 32 (addDraws 32) (add 32) adds refreshDraws refresh refresh-refreshes p x sized (opened-lt 32 x words) ws vs 0 0 w);
+              (there-and-back 32 (addDraws 32) (add 32) adds refreshDraws refresh refresh-refreshes p x sized small ws vs 0 0 w);
         }
 
     pub back-there : (ws : List ℕ) → Words 32 ws
@@ -101,7 +114,8 @@ module _ (n : ℕ) (count : Allowed n) where
     back-there ws w =
         record {
           made = λ came vs w′ h.
-              rw h (back-and-there 32 (addDraws 32) (add 32) adds refreshDraws refresh refresh-refreshes p x ws vs 0 0 sized words w′);
+              rw h
+              (back-and-there 32 (addDraws 32) (add 32) adds refreshDraws refresh refresh-refreshes p x ws vs 0 0 sized words w′);
         }
 
   -- ---- SHA-1 in shares, and a tag
@@ -138,7 +152,8 @@ open-front n zero s t h = refl
 open-front n (suc m) s t h =
     let l : n ≤ length s = omega (arith, suc-mul m n) in
     rw (take-append-le n s t l, drop-append-le n s t l)
-    (ap (λ (u : List ℕ). opened (take n s) ∷ u) (open-front n m (drop n s) t (length-drop n s ∙ omega (arith, suc-mul m n))))
+    (ap (λ (u : List ℕ). opened (take n s) ∷ u)
+    (open-front n m (drop n s) t (length-drop n s ∙ omega (arith, suc-mul m n))))
 
 length-used : (n : ℕ) → Allowed n → (s : List ℕ) → length s ≡ 40 → length (used n s) ≡ 5 * n
 unfolding used
@@ -146,7 +161,8 @@ length-used n count s whole = length-take-le (5 * n) s (omega (arith, within n (
 
 open-used : (n : ℕ) (s : List ℕ) → length (used n s) ≡ 5 * n → openWords n 5 (used n s) ≡ openWords n 5 s
 unfolding used
-open-used n s h = sym (open-front n 5 (take (5 * n) s) (drop (5 * n) s) h) ∙ ap (openWords n 5) (take-append-drop (5 * n) s)
+open-used n s h =
+    sym (open-front n 5 (take (5 * n) s) (drop (5 * n) s) h) ∙ ap (openWords n 5) (take-append-drop (5 * n) s)
 
 words-opened : (k n m : ℕ) (s : List ℕ) → Words k s → Words k (openWords n m s)
 unfolding openWords

@@ -1,6 +1,6 @@
--- What a call comes to, over any tests and any rule: which number it gives, what it leaves, which words have no say in it, what it
--- makes. crates/claims says it of each call.
-use Prim.Native.Nat.{ℕ, zero, suc, _+_, _≤_}
+-- What a call comes to, over any tests and any rule: which number it gives, what it leaves, which words have no say in it,
+-- what it makes. crates/claims says it of each call.
+use Prim.Native.Nat.{ℕ, zero, suc, _≤_}
 use mathlib.Core.Path.{_≡_, refl, sym, ap, _∙_, subst}
 use mathlib.Core.Bool.{Bool, true, false}
 use mathlib.Core.List.{List, [], _∷_}
@@ -15,7 +15,8 @@ use Rattle.rules.specs.Supply.{Draw, Rule, Words}
 use Rattle.rules.specs.Numbers.{either, both, allowed, test, first, settled}
 use Rattle.rules.specs.Independent.{Independent}
 use Rattle.rules.specs.Calls.{call, openCall, recordCall}
-use Rattle.rules.specs.Outcome.{Allowed, None, Given, done, one, two, three, four, five, Settles, OnShares, Follows, Makes}
+use Rattle.rules.specs.Outcome.{Allowed, None, Given, done, one, two, three, four, five}
+use Rattle.rules.specs.Outcome.{Settles, OnShares, Follows, Makes}
 
 -- ---- what a test says of the condition that it tests
 pub data Says (A : Type 0) : Bool → Type 0 where
@@ -40,7 +41,8 @@ says-both (yes p) (yes q) = yes (p, q)
 says-both (yes p) (no q) = no (λ h. q (h .1))
 says-both (no p) s = no (λ h. p (h .0))
 
-pub says-two : (n : ℕ) (x y : List ℕ) → Says ((length x ≡ n) × (length y ≡ n)) (both (eqb (length x) n) (eqb (length y) n))
+pub says-two : (n : ℕ) (x y : List ℕ)
+    → Says ((length x ≡ n) × (length y ≡ n)) (both (eqb (length x) n) (eqb (length y) n))
 says-two n x y = says-both (says-eq (length x) n) (says-eq (length y) n)
 
 says-either : {A B : Type 0} {a b : Bool} → Says A a → Says B b → Says (A ⊎ B) (either a b)
@@ -66,7 +68,8 @@ unfolding first
 given-last p q r s (yes t) = done p q r s t
 given-last p q r s (no t) = five p q r s t
 
-pub given : {A B C D E : Type 0} {a b c d e : Bool} → Says A a → Says B b → Says C c → Says D d → (A → B → C → D → Says E e)
+pub given : {A B C D E : Type 0} {a b c d e : Bool}
+    → Says A a → Says B b → Says C c → Says D d → (A → B → C → D → Says E e)
     → Given A B C D E (first (test 1 a ∷ test 2 b ∷ test 3 c ∷ test 4 d ∷ test 5 e ∷ []))
 unfolding first given-last
 given (no p) b c d e = one p
@@ -80,7 +83,8 @@ pub settles : {A Count Input Output Text Supply : Type 0} (number : ℕ) (made c
     → Given Count Input Output Text Supply number → after ≡ settled number made came
     → Settles Count Input Output Text Supply number made came after
 settles zero made came after g e = record { given = g; refused-leaves = λ h. absurd (h refl); accepted-is = λ h. e }
-settles (suc m) made came after g e = record { given = g; refused-leaves = λ h. e; accepted-is = λ h. absurd (omega arith) }
+settles (suc m) made came after g e =
+    record { given = g; refused-leaves = λ h. e; accepted-is = λ h. absurd (omega arith) }
 
 -- what was asked for is there where the number is 0
 pub asked : {C I O T S : Type 0} {number : ℕ} → Given C I O T S number → number ≡ 0 → C × I × O × T × S
@@ -108,7 +112,9 @@ module _ {d : ℕ} {P : List ℕ → Type 0} {rule : Draw (List ℕ)} (law : Rul
   module _ (vs : List ℕ) (same : take d ws ≡ take d vs) (enough : d ≤ length ws) where
     pub alike : rule ws 0 ≡ rule vs 0
     alike =
-        law .same ws vs 0 (λ i h l. sym (getD-take d ws i 0 (omega arith)) ∙ ap (λ t. getD t i 0) same ∙ getD-take d vs i 0 (omega arith))
+        law .same ws vs 0
+        (λ i h l.
+        sym (getD-take d ws i 0 (omega arith)) ∙ ap (λ t. getD t i 0) same ∙ getD-take d vs i 0 (omega arith))
 
     pub as-long : d ≤ length vs
     as-long = omega (arith, length-take d vs, ap length same, length-take-le d ws enough)
@@ -139,13 +145,15 @@ module _ (n size d : ℕ) {Input Text : Type 0} (input text : Bool) {P : List �
     past vs h same =
         let a = asked number-is h in
         let l = law (a .0) (a .1) (a .3) in
-        rw (← alike l ws vs same (a .4), place l ws, le-leb d (length ws) (a .4), le-leb d (length vs) (as-long l ws vs same (a .4)))
+        let long = as-long l ws vs same (a .4) in
+        rw (← alike l ws vs same (a .4), place l ws, le-leb d (length ws) (a .4), le-leb d (length vs) long)
 
   followed : Follows n Input size Text d rule of
   followed =
       record {
         outcome = λ came ws.
-            settles (number came ws) (rule ws 0) (came, 0) _ (number-is came ws) (settled-pair (number came ws) (rule ws 0) came 0);
+            settles (number came ws) (rule ws 0) (came, 0) _ (number-is came ws)
+            (settled-pair (number came ws) (rule ws 0) came 0);
         count = draws-so;
         past-draws = past;
       }
@@ -181,7 +189,8 @@ exactly g h = only (only (only (only (only (λ p q. p ∙ sym q))))) (asks g) (a
 
 -- ---- what a call makes, from what its rule makes where the call's tests are passed
 module _ {n size d k : ℕ} {Input Text : Type 0} {rule : Draw (List ℕ)} {f : OnShares} {P : List ℕ → Type 0} where
-  pub makes : Follows n Input size Text d rule f → (Allowed n → Input → Text → (ws : List ℕ) → Words k ws → P (rule ws 0 .0)) → Makes k f P
+  pub makes : Follows n Input size Text d rule f
+      → (Allowed n → Input → Text → (ws : List ℕ) → Words k ws → P (rule ws 0 .0)) → Makes k f P
   makes follows law = record {
     made = λ came ws w h.
         let o = follows .outcome came ws in
@@ -197,16 +206,19 @@ pub open-settles : (n : ℕ) (x : List ℕ) (word : ℕ)
     → (let o = openCall n x word in Settles (Allowed n) (length x ≡ n) None None None (o .number) word 0 (o .word))
 unfolding first
 open-settles n x word =
-    settles (openCall n x word .number) word 0 _ (given (says-count n) (says-eq (length x) n) untested untested (λ c i o t. untested)) refl
+    settles (openCall n x word .number) word 0 _
+    (given (says-count n) (says-eq (length x) n) untested untested (λ c i o t. untested)) refl
 
 pub record-settles : (size : ℕ) (steps came : List ℕ)
     → (let o = recordCall size steps came in Settles None None (length came ≡ size) None None (o .0) steps came (o .1))
 unfolding first
 record-settles size steps came =
-    settles (recordCall size steps came .0) steps came _ (given untested untested (says-eq (length came) size) untested (λ c i o t. untested)) refl
+    settles (recordCall size steps came .0) steps came _
+    (given untested untested (says-eq (length came) size) untested (λ c i o t. untested)) refl
 
 -- demand 3, at what a recording call leaves: its number does not hang on what is recorded
-pub record-independent : (k i size : ℕ) (steps : ℕ → ℕ → ℕ → List ℕ) (came : List ℕ) → Independent k (λ x r G. getD (steps x r G) i 0)
+pub record-independent : (k i size : ℕ) (steps : ℕ → ℕ → ℕ → List ℕ) (came : List ℕ)
+    → Independent k (λ x r G. getD (steps x r G) i 0)
     → Independent k (λ x r G. getD (recordCall size (steps x r G) came .1) i 0)
 record-independent k i size steps came h = go (recordCall size [] came .0)
   where
