@@ -48,7 +48,7 @@ module _ (a : List ℕ) where
 total-halves : (h : ℕ) (a : List ℕ) → total (take h a) + total (drop h a) ≡ total a
 total-halves h a = sym (total-append (take h a) (drop h a)) ∙ ap total (take-append-drop h a)
 
-words-take : (k n : ℕ) (a : List ℕ) → Words k a → Words k (take n a)
+pub words-take : (k n : ℕ) (a : List ℕ) → Words k a → Words k (take n a)
 words-take k zero a h i = pow-pos k
 words-take k (suc n) [] h i = pow-pos k
 words-take k (suc n) (x ∷ a) h zero = h 0

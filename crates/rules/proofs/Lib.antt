@@ -18,3 +18,5 @@ pub mod MaskedHmac
 pub mod Sizes
 pub mod Opens
 pub mod Tags
+pub mod Outcomes
+pub mod AtCalls

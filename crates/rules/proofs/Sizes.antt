@@ -105,7 +105,7 @@ splitKey-sized H n key h =
     (λ z g. goods-size (λ x X p. p .0) g ∙ ap (λ t. t * n) e)
 
 -- ---- in closed form
-andDraws-twice : (m : ℕ) → andDraws (suc m) * 2 ≡ suc m * m
+pub andDraws-twice : (m : ℕ) → andDraws (suc m) * 2 ≡ suc m * m
 unfolding andDraws
 andDraws-twice zero = refl
 andDraws-twice (suc m) = omega (arith, andDraws-twice m, suc-mul (suc m) (suc m), mul-suc (suc m) m)

@@ -10,4 +10,5 @@ pub mod Sha1
 pub mod Hmac
 pub mod Counts
 pub mod Calls
+pub mod Outcome
 pub mod Table

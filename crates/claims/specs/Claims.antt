@@ -1,0 +1,245 @@
+-- The claims, on one page: each demand as a theorem about the calls (crates/rules/specs/Calls.antt) at 32 bits. How an
+-- outcome is described, `Given`, `Settles`, `Follows`, `Makes`, stands in crates/rules/specs/Outcome.antt. The hypothesis
+-- `Words k x`, every entry of x is below 2^k, is true of all that the code can be lent: words (k = 32), bytes (k = 8).
+use Prim.Native.Nat.{ℕ, _+_, _-_, _*_, _/_, _%_, _^_, _≤_, _<_}
+use mathlib.Core.Path.{_≡_, refl, ap, _∙_}
+use mathlib.Core.List.{List, [], _∷_, _++_}
+use lib.Bits.{bitXor, bitAnd, xor-lt}
+use lib.Dec.{lit<, lit≤}
+use lib.ListN.{length, getD, take, replicate}
+use Rattle.words.specs.Word.{plus, minus, shift}
+use Rattle.words.proofs.Words.{plus-minus}
+use Rattle.rules.specs.declared.Answer.{Answer}
+use Rattle.rules.specs.declared.Chain.{Chain}
+use Rattle.rules.specs.declared.Compressed.{Compressed}
+use Rattle.rules.specs.Supply.{Shares, Words, split, opened, total}
+use Rattle.rules.specs.Numbers.{first}
+use Rattle.rules.specs.Goubin.{b2aRecord, a2bRecord}
+use Rattle.rules.specs.Independent.{Independent}
+use Rattle.rules.specs.Shares.{refresh, expand, and, add}
+use Rattle.rules.specs.Convert.{toBool, toArith}
+use Rattle.rules.specs.Hash.{bytesOf, numberOf, wordsOf, allBytes, zeros, padding, ended, ending, blocks, digest, keyBlock}
+use Rattle.rules.specs.Hash.{hmac}
+use Rattle.rules.specs.Standard.{SHA1, ROTL, complement, Ch, Parity, Maj, f, schedule, round, rounds, sums, compress}
+use Rattle.rules.specs.Sha1.{openWords, used, compress as compressShares}
+use Rattle.rules.specs.Hmac.{splitKey, hmacTag}
+use Rattle.rules.specs.Counts.{addDraws, toBoolDraws, sha1}
+use Rattle.rules.specs.Calls.{b2aTwo, a2bTwo, b2aRecordCall, a2bRecordCall, splitCall, openXorCall, openSumCall}
+use Rattle.rules.specs.Calls.{refreshCall, expandCall, andCall, addCall, a2bCall, b2aCall, splitKeyCall, compressCall, hmacCall}
+use Rattle.rules.specs.Outcome.{Allowed, None, Given, Settles, Follows, Makes}
+use Rattle.rules.proofs.Outcomes.{untested, says-eq, says-le, says-two, exactly, follows, makes, makes-as}
+use Rattle.rules.proofs.Outcomes.{open-settles, record-settles, record-independent}
+use Rattle.rules.proofs.AtCalls.{some, add-count, expand-law, and-law, add-law, toBool-law, toArith-law, toArith-sums}
+use Rattle.rules.proofs.AtCalls.{there-back, back-there, splitKey-law, hmacTag-law, tags, xor-off}
+use Rattle.rules.proofs.AtCalls.{compress-outcome, compress-drawn, compress-past, compress-opens-to}
+use Rattle.rules.proofs.Openings.{opened-lt}
+use Rattle.rules.proofs.Pairs.{refresh-rule}
+use Rattle.rules.proofs.Addition.{add-rule, split-rule}
+use Rattle.rules.proofs.Conversion.{draws-one, draws-more}
+use Rattle.rules.proofs.Ends.{b2a-ends, a2b-ends}
+use Rattle.rules.proofs.Demand3.{b2a-independent, a2b-independent}
+use Rattle.rules.proofs.Calls.{one-outcome}
+
+-- ==== Demand 1: what a call leaves
+-- A number is given exactly when section 3 says: whatever the conditions are, no two numbers fit them.
+pub given-exactly : {Count Input Output Text Supply : Type 0} {i j : ℕ}
+    → Given Count Input Output Text Supply i → Given Count Input Output Text Supply j → i ≡ j
+given-exactly = exactly
+
+-- W(n), the words of arithmetic to Boolean: W(1) = 0 and W(n) = 2W(n/2) + n + 16n(n−1).
+abbrev pub W : ℕ → ℕ
+W n = toBoolDraws (addDraws 32) n
+
+pub W-one : W 1 ≡ 0
+W-one = draws-one (addDraws 32) 1 (lit≤ tt)
+
+pub W-more : (n : ℕ) → 1 < n → W n ≡ 2 * W (n / 2) + n + 16 * (n * (n - 1))
+W-more n h = draws-more (addDraws 32) n h ∙ ap (λ d. 2 * W (n / 2) + n + d) (add-count n)
+
+-- The calls on n shares, each with what it asks of its input, how long its output is, what it asks of its text, how many
+-- words it draws and its rule. Refused, it reports 0 words drawn and the output stays as it came (`refused-leaves`).
+-- Accepted, output and count are the rule's, from place 0 (`accepted-is`), the count in closed form (`count`), and words
+-- after those drawn have no influence (`past-draws`).
+pub record CallsFollow (n : ℕ) : Type 0 where
+  pub split-follows : (value : ℕ) → Follows n None n None (n - 1) (split n value) (splitCall n value)
+  pub refresh-follows : (x : List ℕ) → Follows n (length x ≡ n) n None (n - 1) (refresh x) (refreshCall n x)
+  pub expand-follows : (x : List ℕ) → Follows n (length x ≡ n) (2 * n) None n (expand x) (expandCall n x)
+  pub and-follows : (x y : List ℕ)
+      → Follows n ((length x ≡ n) × (length y ≡ n)) n None (n * (n - 1) / 2) (and x y) (andCall n x y)
+  pub add-follows : (x y : List ℕ)
+      → Follows n ((length x ≡ n) × (length y ≡ n)) n None (16 * (n * (n - 1))) (add 32 x y) (addCall 32 n x y)
+  pub a2b-follows : (a : List ℕ) → Words 32 a
+      → Follows n (length a ≡ n) n None (W n) (toBool (add 32) a) (a2bCall 32 n a)
+  pub b2a-follows : (x : List ℕ) → Words 32 x
+      → Follows n (length x ≡ n) n None (2 * (n - 1) + W n + 16 * (n * (n - 1)))
+      (toArith 32 (add 32) refresh x) (b2aCall 32 n x)
+  pub split-key-follows : (key : List ℕ)
+      → Follows n None (16 * n) (length key ≤ 64) (16 * (n - 1)) (splitKey (SHA1 32) n key) (splitKeyCall n key)
+  pub hmac-follows : (key text : List ℕ)
+      → Follows n (length key ≡ 16 * n) 20 (length text ≤ 4096) (((length text + 8) / 64 + 4) * (5220 * (n * (n - 1))))
+      (hmacTag (sha1 32) n key text) (hmacCall 32 n key text)
+
+pub calls-follow : (n : ℕ) → CallsFollow n
+unfolding first
+calls-follow n =
+    record {
+      split-follows = λ value. follows untested untested (λ c i t. split-rule n value (some n c));
+      refresh-follows = λ x. follows (says-eq (length x) n) untested (λ c i t. refresh-rule n x i);
+      expand-follows = λ x. follows (says-eq (length x) n) untested (λ c i t. expand-law n x i);
+      and-follows = λ x y. follows (says-two n x y) untested (λ c i t. and-law n x y i);
+      add-follows = λ x y. follows (says-two n x y) untested (λ c i t. add-law n x y i);
+      a2b-follows = λ a u. follows (says-eq (length a) n) untested (λ c i t. toBool-law n c a i u);
+      b2a-follows = λ x u. follows (says-eq (length x) n) untested (λ c i t. toArith-law n c x i u);
+      split-key-follows = λ key. follows untested (says-le (length key) 64) (λ c i t. splitKey-law n c key);
+      hmac-follows = λ key text.
+          follows (says-eq (length key) (16 * n)) (says-le (length text) 4096) (λ c i t. hmacTag-law n c key text i);
+    }
+
+-- An opening gives 0, 1 or 2: the XOR of the shares, or their sum modulo 2^32; refused, the word 0.
+pub open-xor-settles : (n : ℕ) (x : List ℕ)
+    → (let o = openXorCall n x in Settles (Allowed n) (length x ≡ n) None None None (o .number) (opened x) 0 (o .word))
+open-xor-settles n x = open-settles n x (opened x)
+
+pub open-sum-settles : (n : ℕ) (a : List ℕ)
+    → (let o = openSumCall 32 n a in
+    Settles (Allowed n) (length a ≡ n) None None None (o .number) (total a % 2 ^ 32) 0 (o .word))
+open-sum-settles n a = open-settles n a (total a % 2 ^ 32)
+
+-- A recording form gives 0 or 3: a record of exactly 7 or 165 entries has the steps, any other stays as it came.
+pub b2a-record-settles : (x′ r G : ℕ) (came : List ℕ)
+    → (let o = b2aRecordCall 32 x′ r G came in
+    Settles None None (length came ≡ 7) None None (o .0) (b2aRecord 32 x′ r G) came (o .1))
+b2a-record-settles x′ r G came = record-settles 7 (b2aRecord 32 x′ r G) came
+
+pub a2b-record-settles : (A r G : ℕ) (came : List ℕ)
+    → (let o = a2bRecordCall 32 A r G came in
+    Settles None None (length came ≡ 165) None None (o .0) (a2bRecord 32 A r G) came (o .1))
+a2b-record-settles A r G came = record-settles 165 (a2bRecord 32 A r G) came
+
+-- A compression: refused, the chain record exactly as given; accepted, the new chain with 0 after 5n words, and
+-- 5,220·n(n−1) words drawn. What the record has after 5n words, and the supply after those drawn, is not looked at.
+-- (That a chain has 40 words is its type's, `[u32; 40]`.)
+module _ (n : ℕ) (chain : Chain) (forty : length (chain .shares) ≡ 40) (block ws : List ℕ) where
+  abbrev o : Compressed
+  o = compressCall 32 n chain block ws
+
+  pub compress-settles : (let made = compressShares 32 (add 32) n (used n (chain .shares)) block ws 0 in
+      Settles {A = Chain × ℕ} (Allowed n) (length block ≡ 16 * n) None None (5220 * (n * (n - 1)) ≤ length ws)
+      (o .number) (record { shares = made .0 ++ replicate (40 - 5 * n) 0 }, made .1) (chain, 0) (o .chain, o .drawn))
+  compress-settles = compress-outcome n chain block forty ws
+
+  pub compress-draws : o .number ≡ 0 → o .drawn ≡ 5220 * (n * (n - 1))
+  compress-draws = compress-drawn n chain block forty ws
+
+  pub compress-past-draws : o .number ≡ 0 → (other : Chain) (vs : List ℕ)
+      → take (5 * n) (chain .shares) ≡ take (5 * n) (other .shares)
+      → take (5220 * (n * (n - 1))) ws ≡ take (5220 * (n * (n - 1))) vs → o ≡ compressCall 32 n other block vs
+  compress-past-draws = compress-past n chain block forty ws
+
+  -- Demand 2: it opens to FIPS 180-4's compression of what the chain and the block open to.
+  pub compress-is-fips180 : o .number ≡ 0 → Words 32 (chain .shares) → Words 32 block
+      → openWords n 5 (o .chain .shares) ≡ compress 32 (openWords n 5 (chain .shares)) (openWords n 16 block)
+  compress-is-fips180 = compress-opens-to n chain block forty ws
+
+-- ==== Demand 2: right whatever the random words are
+-- Splitting, refresh and expand keep the secret; AND opens to the AND, addition to the sum modulo 2^32.
+pub split-keeps : (n value : ℕ) → Makes 32 (splitCall n value) (Shares n value)
+split-keeps n value = makes-as (calls-follow n .split-follows value) (λ c i t. split-rule n value (some n c))
+
+pub refresh-keeps : (n : ℕ) (x : List ℕ) → Makes 32 (refreshCall n x) (Shares n (opened x))
+refresh-keeps n x = makes-as (calls-follow n .refresh-follows x) (λ c i t. refresh-rule n x i)
+
+pub expand-keeps : (n : ℕ) (x : List ℕ) → Makes 32 (expandCall n x) (Shares (2 * n) (opened x))
+expand-keeps n x = makes-as (calls-follow n .expand-follows x) (λ c i t. expand-law n x i)
+
+pub and-ands : (n : ℕ) (x y : List ℕ) → Makes 32 (andCall n x y) (Shares n (bitAnd (opened x) (opened y)))
+and-ands n x y = makes-as (calls-follow n .and-follows x y) (λ c i t. and-law n x y i)
+
+pub add-adds : (n : ℕ) (x y : List ℕ) → Words 32 x → Words 32 y
+    → Makes 32 (addCall 32 n x y) (Shares n ((opened x + opened y) % 2 ^ 32))
+unfolding plus
+add-adds n x y u v =
+    makes-as (calls-follow n .add-follows x y)
+    (λ c i t. add-rule 32 n x y (lit< tt) (i .0) (i .1) (opened-lt 32 x u) (opened-lt 32 y v))
+
+-- Both conversions keep the secret, and so does going there and back, whatever words either draws.
+pub a2b-keeps : (n : ℕ) (a : List ℕ) → Words 32 a → Makes 32 (a2bCall 32 n a) (Shares n (total a % 2 ^ 32))
+a2b-keeps n a u = makes-as (calls-follow n .a2b-follows a u) (λ c i t. toBool-law n c a i u)
+
+pub b2a-keeps : (n : ℕ) (x : List ℕ) → Words 32 x
+    → Makes 32 (b2aCall 32 n x) (λ a. (length a ≡ n) × (total a % 2 ^ 32 ≡ opened x))
+b2a-keeps n x u =
+    makes (calls-follow n .b2a-follows x u)
+    (λ c i t ws w. (toArith-law n c x i u .makes ws 0, toArith-sums n c x i u ws w))
+
+pub there-and-back : (n : ℕ) (x : List ℕ) → Words 32 x
+    → Makes 32 (b2aCall 32 n x) (λ a. Makes 32 (a2bCall 32 n a) (λ y. opened y ≡ opened x))
+there-and-back n x u = makes (calls-follow n .b2a-follows x u) (λ c i t. there-back n c x i u)
+
+pub back-and-there : (n : ℕ) (a : List ℕ) → Words 32 a
+    → Makes 32 (a2bCall 32 n a) (λ x. Makes 32 (b2aCall 32 n x) (λ b. total b % 2 ^ 32 ≡ total a % 2 ^ 32))
+back-and-there n a u = makes (calls-follow n .a2b-follows a u) (λ c i t. back-there n c a i u)
+
+-- Splitting a key and tagging with its shares gives the bytes of RFC 2104 over FIPS 180-4, for all keys, texts and words.
+pub tag-is-rfc2104 : (n : ℕ) (key text : List ℕ) → Words 8 key → Words 8 text
+    → Makes 32 (splitKeyCall n key)
+    (λ shares. Makes 32 (hmacCall 32 n shares text) (λ tag. tag ≡ hmac (SHA1 32) key text))
+tag-is-rfc2104 n key text u v = makes (calls-follow n .split-key-follows key) (λ c i t ws w. tags n c key text u v t ws)
+
+-- The working two-share forms keep the secret, and are what the recording forms end in, whatever the fresh word is.
+pub b2a-two-keeps : (x′ r : ℕ) → x′ < 2 ^ 32 → r < 2 ^ 32 → (b2aTwo 32 x′ r + r) % 2 ^ 32 ≡ bitXor x′ r
+unfolding plus
+b2a-two-keeps x′ r h l = plus-minus 32 (bitXor x′ r) r (xor-lt 32 x′ r h l) l
+
+pub a2b-two-keeps : (A r : ℕ) → bitXor (a2bTwo 32 A r) r ≡ (A + r) % 2 ^ 32
+unfolding plus
+a2b-two-keeps A r = xor-off (plus 32 A r) r
+
+pub b2a-record-ends : (x′ r G : ℕ) (came : List ℕ) → x′ < 2 ^ 32 → r < 2 ^ 32 → G < 2 ^ 32
+    → (let o = b2aRecordCall 32 x′ r G came in o .0 ≡ 0 → getD (o .1) 6 0 ≡ b2aTwo 32 x′ r)
+b2a-record-ends x′ r G came a b c h = rw h (b2a-ends 32 x′ r G a b c)
+
+pub a2b-record-ends : (A r G : ℕ) (came : List ℕ) → A < 2 ^ 32 → r < 2 ^ 32
+    → (let o = a2bRecordCall 32 A r G came in o .0 ≡ 0 → getD (o .1) 164 0 ≡ a2bTwo 32 A r)
+a2b-record-ends A r G came a b h = rw h (a2b-ends 32 A r G (lit< tt) a b)
+
+-- ==== Demand 3: one probe on one step says nothing
+-- Each entry that a recording call leaves, at every width k, shows each value equally often for any two secrets, over
+-- all r and G. (That this can fail, as of two steps together, is `two-steps-show` of crates/rules/proofs/Demand3.antt.)
+pub b2a-step-says-nothing : (k i : ℕ) (came : List ℕ)
+    → Independent k (λ x r G. getD (b2aRecordCall k (bitXor x r) r G came .1) i 0)
+b2a-step-says-nothing k i came =
+    record-independent k i 7 (λ x r G. b2aRecord k (bitXor x r) r G) came (b2a-independent k i)
+
+pub a2b-step-says-nothing : (k i : ℕ) (came : List ℕ)
+    → Independent k (λ x r G. getD (a2bRecordCall k (minus k x r) r G came .1) i 0)
+a2b-step-says-nothing k i came =
+    record-independent k i (5 * k + 5) (λ x r G. a2bRecord k (minus k x r) r G) came (a2b-independent k i)
+
+-- ==== No two differing outcomes satisfy one promise: in general, and of a tag
+pub no-two-outcomes : {O : Type 0} (promised one other : O) → promised ≡ one → promised ≡ other → one ≡ other
+no-two-outcomes = one-outcome
+
+pub no-two-tags : (n : ℕ) (key text came ws tag tag′ : List ℕ) (answer answer′ : Answer)
+    → hmacCall 32 n key text came ws ≡ (answer, tag) → hmacCall 32 n key text came ws ≡ (answer′, tag′)
+    → (answer ≡ answer′) × (tag ≡ tag′)
+no-two-tags n key text came ws tag tag′ answer answer′ p q =
+    let e = no-two-outcomes (hmacCall 32 n key text came ws) (answer, tag) (answer′, tag′) p q in
+    (ap (λ o. o .0) e, ap (λ o. o .1) e)
+
+-- ==== The standards, computed: FIPS 180's example "abc", and case 1 of RFC 2202
+pub sha1-of-abc : digest (SHA1 32) (0x61 ∷ 0x62 ∷ 0x63 ∷ []) ≡ bytesOf 20 0xa9993e364706816aba3e25717850c26c9cd0d89d
+unfolding digest bytesOf numberOf wordsOf allBytes zeros padding ended ending blocks
+    ROTL complement Ch Parity Maj f schedule round rounds sums compress plus shift
+sha1-of-abc = refl
+
+pub hmac-of-hi-there :
+    hmac (SHA1 32) (replicate 20 0x0b) (0x48 ∷ 0x69 ∷ 0x20 ∷ 0x54 ∷ 0x68 ∷ 0x65 ∷ 0x72 ∷ 0x65 ∷ [])
+    ≡ bytesOf 20 0xb617318655057264e28bc0b6fb378c8ef146be00
+unfolding hmac keyBlock sha1-of-abc
+hmac-of-hi-there = refl
+
+-- ==== What no theorem says, and is read
+-- That no word serves two draws is the shape of the rules: every draw moves the place on (`Draw` of rules/specs/Supply,
+-- `bind` of rules/proofs/Rule). That what is lent for reading is not written is the language's. That the code is these
+-- calls is each function's `ensures` in crates/flamivorse/src/lib.rt.

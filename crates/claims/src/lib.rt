@@ -1,0 +1,1 @@
+// The claims, on one page: theorems about the calls, and no code.

@@ -1,0 +1,227 @@
+-- What a call comes to, over any tests and any rule: which number it gives, what it leaves, which words have no say in it,
+-- what it makes. crates/claims says it of each call.
+use Prim.Native.Nat.{ℕ, zero, suc, _≤_}
+use mathlib.Core.Path.{_≡_, refl, sym, ap, _∙_, subst}
+use mathlib.Core.Bool.{Bool, true, false}
+use mathlib.Core.List.{List, [], _∷_}
+use mathlib.Core.Logic.{_⊎_, inl, inr}
+use native.Mathlib.Nat.{zero-add}
+use native.Mathlib.Omega.{arith}
+use lib.Dec.{eqb, leb}
+use lib.ListN.{length, getD, take, length-take}
+use lib.Seq.{length-take-le, getD-take}
+use borrow.Author.Tests.{eqb-true, eqb-false, leb-true, leb-false, le-leb}
+use Rattle.rules.specs.Supply.{Draw, Rule, Words}
+use Rattle.rules.specs.Numbers.{either, both, allowed, test, first, settled}
+use Rattle.rules.specs.Independent.{Independent}
+use Rattle.rules.specs.Calls.{call, openCall, recordCall}
+use Rattle.rules.specs.Outcome.{Allowed, None, Given, done, one, two, three, four, five}
+use Rattle.rules.specs.Outcome.{Settles, OnShares, Follows, Makes}
+
+-- ---- what a test says of the condition that it tests
+pub data Says (A : Type 0) : Bool → Type 0 where
+  yes : A → Says A true
+  no : (A → ⊥) → Says A false
+
+says : (A : Type 0) (b : Bool) → (b ≡ true → A) → (b ≡ false → A → ⊥) → Says A b
+says A true is isnt = yes (is refl)
+says A false is isnt = no (isnt refl)
+
+pub untested : Says None true
+untested = yes tt
+
+pub says-eq : (a b : ℕ) → Says (a ≡ b) (eqb a b)
+says-eq a b = says (a ≡ b) (eqb a b) (eqb-true a b) (eqb-false a b)
+
+pub says-le : (a b : ℕ) → Says (a ≤ b) (leb a b)
+says-le a b = says (a ≤ b) (leb a b) (leb-true a b) (λ e h. omega (arith, leb-false a b e))
+
+says-both : {A B : Type 0} {a b : Bool} → Says A a → Says B b → Says (A × B) (both a b)
+says-both (yes p) (yes q) = yes (p, q)
+says-both (yes p) (no q) = no (λ h. q (h .1))
+says-both (no p) s = no (λ h. p (h .0))
+
+pub says-two : (n : ℕ) (x y : List ℕ)
+    → Says ((length x ≡ n) × (length y ≡ n)) (both (eqb (length x) n) (eqb (length y) n))
+says-two n x y = says-both (says-eq (length x) n) (says-eq (length y) n)
+
+says-either : {A B : Type 0} {a b : Bool} → Says A a → Says B b → Says (A ⊎ B) (either a b)
+says-either (yes p) s = yes (inl p)
+says-either (no p) (yes q) = yes (inr q)
+says-either {A} {B} (no p) (no q) = no neither
+  where
+    neither : A ⊎ B → ⊥
+    neither (inl x) = p x
+    neither (inr y) = q y
+
+pub says-count : (n : ℕ) → Says (Allowed n) (allowed n)
+unfolding allowed
+says-count n = says-either (says-eq n 1) (says-either (says-eq n 2) (says-either (says-eq n 4) (says-eq n 8)))
+
+pub passed : {A : Type 0} {b : Bool} → Says A b → A → b ≡ true
+passed (yes p) h = refl
+passed (no p) h = absurd (p h)
+
+-- ---- the number of five tests, in order; of the last it is asked only where the others are passed
+given-last : {A B C D E : Type 0} {e : Bool} → A → B → C → D → Says E e → Given A B C D E (first (test 5 e ∷ []))
+unfolding first
+given-last p q r s (yes t) = done p q r s t
+given-last p q r s (no t) = five p q r s t
+
+pub given : {A B C D E : Type 0} {a b c d e : Bool}
+    → Says A a → Says B b → Says C c → Says D d → (A → B → C → D → Says E e)
+    → Given A B C D E (first (test 1 a ∷ test 2 b ∷ test 3 c ∷ test 4 d ∷ test 5 e ∷ []))
+unfolding first given-last
+given (no p) b c d e = one p
+given (yes p) (no q) c d e = two p q
+given (yes p) (yes q) (no r) d e = three p q r
+given (yes p) (yes q) (yes r) (no s) e = four p q r s
+given (yes p) (yes q) (yes r) (yes s) e = given-last p q r s (e p q r s)
+
+-- ---- by the number: what was made, or what came
+pub settles : {A Count Input Output Text Supply : Type 0} (number : ℕ) (made came after : A)
+    → Given Count Input Output Text Supply number → after ≡ settled number made came
+    → Settles Count Input Output Text Supply number made came after
+settles zero made came after g e = record { given = g; refused-leaves = λ h. absurd (h refl); accepted-is = λ h. e }
+settles (suc m) made came after g e =
+    record { given = g; refused-leaves = λ h. e; accepted-is = λ h. absurd (omega arith) }
+
+-- what was asked for is there where the number is 0
+pub asked : {C I O T S : Type 0} {number : ℕ} → Given C I O T S number → number ≡ 0 → C × I × O × T × S
+asked (done c i o t s) h = (c, i, o, t, s)
+asked (one p) h = absurd (omega arith)
+asked (two c p) h = absurd (omega arith)
+asked (three c i p) h = absurd (omega arith)
+asked (four c i o p) h = absurd (omega arith)
+asked (five c i o t p) h = absurd (omega arith)
+
+pub settled-pair : {A B : Type 0} (number : ℕ) (a : A × B) (c : A) (d : B)
+    → (settled number (a .0) c, settled number (a .1) d) ≡ settled number a (c, d)
+settled-pair zero a c d = refl
+settled-pair (suc number) a c d = refl
+
+-- ---- a rule from place 0
+module _ {d : ℕ} {P : List ℕ → Type 0} {rule : Draw (List ℕ)} (law : Rule d P rule) (ws : List ℕ) where
+  pub place : rule ws 0 .1 ≡ d
+  place = law .place ws 0 ∙ zero-add d
+
+  pub says-supply : Says (d ≤ length ws) (leb (rule ws 0 .1) (length ws))
+  says-supply = rw place (says-le d (length ws))
+
+  -- a supply with the same first words
+  module _ (vs : List ℕ) (same : take d ws ≡ take d vs) (enough : d ≤ length ws) where
+    pub alike : rule ws 0 ≡ rule vs 0
+    alike =
+        law .same ws vs 0
+        (λ i h l.
+        sym (getD-take d ws i 0 (omega arith)) ∙ ap (λ t. getD t i 0) same ∙ getD-take d vs i 0 (omega arith))
+
+    pub as-long : d ≤ length vs
+    as-long = omega (arith, length-take d vs, ap length same, length-take-le d ws enough)
+
+-- ---- a call on shares follows its rule, which has its law where the call's tests are passed
+abbrev pub callOf : ℕ → Bool → ℕ → Bool → Draw (List ℕ) → OnShares
+callOf n input size text rule came =
+    call (test 1 (allowed n) ∷ test 2 input ∷ test 3 (eqb (length came) size) ∷ test 4 text ∷ []) rule came
+
+module _ (n size d : ℕ) {Input Text : Type 0} (input text : Bool) {P : List ℕ → Type 0} (rule : Draw (List ℕ))
+    (says-input : Says Input input) (says-text : Says Text text) (law : Allowed n → Input → Text → Rule d P rule) where
+  abbrev of : OnShares
+  of = callOf n input size text rule
+
+  module _ (came ws : List ℕ) where
+    abbrev number : ℕ
+    number = of came ws .0 .number
+
+    number-is : Given (Allowed n) Input (length came ≡ size) Text (d ≤ length ws) number
+    number-is =
+        given (says-count n) says-input (says-eq (length came) size) says-text
+        (λ c i o t. says-supply (law c i t) ws)
+
+    draws-so : number ≡ 0 → of came ws .0 .drawn ≡ d
+    draws-so h = let a = asked number-is h in rw h (place (law (a .0) (a .1) (a .3)) ws)
+
+    past : (vs : List ℕ) → number ≡ 0 → take d ws ≡ take d vs → of came ws ≡ of came vs
+    past vs h same =
+        let a = asked number-is h in
+        let l = law (a .0) (a .1) (a .3) in
+        let long = as-long l ws vs same (a .4) in
+        rw (← alike l ws vs same (a .4), place l ws, le-leb d (length ws) (a .4), le-leb d (length vs) long)
+
+  followed : Follows n Input size Text d rule of
+  followed =
+      record {
+        outcome = λ came ws.
+            settles (number came ws) (rule ws 0) (came, 0) _ (number-is came ws)
+            (settled-pair (number came ws) (rule ws 0) came 0);
+        count = draws-so;
+        past-draws = past;
+      }
+
+pub follows : {n size d : ℕ} {Input Text : Type 0} {input text : Bool} {P : List ℕ → Type 0} {rule : Draw (List ℕ)}
+    → Says Input input → Says Text text → (Allowed n → Input → Text → Rule d P rule)
+    → Follows n Input size Text d rule (callOf n input size text rule)
+follows {n} {size} {d} {input = input} {text = text} {rule = rule} = followed n size d input text rule
+
+-- ---- the conditions leave one number
+-- the condition A, where it fails, gives m; else what R gives
+data Ask (A : Type 0) (m : ℕ) (R : ℕ → Type 0) : ℕ → Type 0 where
+  fails : (A → ⊥) → Ask A m R m
+  holds : {number : ℕ} → A → R number → Ask A m R number
+
+asks : {A B C D E : Type 0} {number : ℕ} → Given A B C D E number
+    → Ask A 1 (Ask B 2 (Ask C 3 (Ask D 4 (Ask E 5 (λ number. number ≡ 0))))) number
+asks (done a b c d e) = holds a (holds b (holds c (holds d (holds e refl))))
+asks (one a) = fails a
+asks (two a b) = holds a (fails b)
+asks (three a b c) = holds a (holds b (fails c))
+asks (four a b c d) = holds a (holds b (holds c (fails d)))
+asks (five a b c d e) = holds a (holds b (holds c (holds d (fails e))))
+
+only : {A : Type 0} {m i j : ℕ} {R : ℕ → Type 0} → (R i → R j → i ≡ j) → Ask A m R i → Ask A m R j → i ≡ j
+only rest (fails p) (fails q) = refl
+only rest (fails p) (holds a r) = absurd (p a)
+only rest (holds a r) (fails q) = absurd (q a)
+only rest (holds a r) (holds b s) = rest r s
+
+pub exactly : {A B C D E : Type 0} {i j : ℕ} → Given A B C D E i → Given A B C D E j → i ≡ j
+exactly g h = only (only (only (only (only (λ p q. p ∙ sym q))))) (asks g) (asks h)
+
+-- ---- what a call makes, from what its rule makes where the call's tests are passed
+module _ {n size d k : ℕ} {Input Text : Type 0} {rule : Draw (List ℕ)} {f : OnShares} {P : List ℕ → Type 0} where
+  pub makes : Follows n Input size Text d rule f
+      → (Allowed n → Input → Text → (ws : List ℕ) → Words k ws → P (rule ws 0 .0)) → Makes k f P
+  makes follows law = record {
+    made = λ came ws w h.
+        let o = follows .outcome came ws in
+        let a = asked (o .given) h in
+        subst (λ (t : List ℕ × ℕ). P (t .0)) (sym (o .accepted-is h)) (law (a .0) (a .1) (a .3) ws w);
+  }
+
+  pub makes-as : {e : ℕ} → Follows n Input size Text d rule f → (Allowed n → Input → Text → Rule e P rule) → Makes k f P
+  makes-as follows law = makes follows (λ c i t ws w. law c i t .makes ws 0)
+
+-- ---- openings and records
+pub open-settles : (n : ℕ) (x : List ℕ) (word : ℕ)
+    → (let o = openCall n x word in Settles (Allowed n) (length x ≡ n) None None None (o .number) word 0 (o .word))
+unfolding first
+open-settles n x word =
+    settles (openCall n x word .number) word 0 _
+    (given (says-count n) (says-eq (length x) n) untested untested (λ c i o t. untested)) refl
+
+pub record-settles : (size : ℕ) (steps came : List ℕ)
+    → (let o = recordCall size steps came in Settles None None (length came ≡ size) None None (o .0) steps came (o .1))
+unfolding first
+record-settles size steps came =
+    settles (recordCall size steps came .0) steps came _
+    (given untested untested (says-eq (length came) size) untested (λ c i o t. untested)) refl
+
+-- demand 3, at what a recording call leaves: its number does not hang on what is recorded
+pub record-independent : (k i size : ℕ) (steps : ℕ → ℕ → ℕ → List ℕ) (came : List ℕ)
+    → Independent k (λ x r G. getD (steps x r G) i 0)
+    → Independent k (λ x r G. getD (recordCall size (steps x r G) came .1) i 0)
+record-independent k i size steps came h = go (recordCall size [] came .0)
+  where
+    go : (number : ℕ) → Independent k (λ x r G. getD (settled number (steps x r G) came) i 0)
+    go zero = h
+    go (suc m) = λ x y v a b. refl

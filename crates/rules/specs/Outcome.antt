@@ -1,0 +1,49 @@
+-- What is said of a call's outcome: the number, what there is afterwards, what it made. crates/claims says it of each call.
+use Prim.Native.Nat.{ℕ, _≤_}
+use mathlib.Core.Path.{_≡_}
+use mathlib.Core.List.{List}
+use mathlib.Core.Logic.{_⊎_}
+use lib.ListN.{length, take}
+use Rattle.rules.specs.declared.Answer.{Answer}
+use Rattle.rules.specs.Supply.{Draw, Words}
+
+-- the share counts that calls take
+abbrev pub Allowed : ℕ → Type 0
+Allowed n = (n ≡ 1) ⊎ (n ≡ 2) ⊎ (n ≡ 4) ⊎ (n ≡ 8)
+
+-- what a call does not take it does not test
+abbrev pub None : Type 0
+None = Unit {0}
+
+-- Section 3: which number is given, by what holds of the share count, the input slices, the output slice, the text and the supply
+pub data Given (Count Input Output Text Supply : Type 0) : ℕ → Type 0 where
+  done : Count → Input → Output → Text → Supply → Given Count Input Output Text Supply 0
+  one : (Count → ⊥) → Given Count Input Output Text Supply 1
+  two : Count → (Input → ⊥) → Given Count Input Output Text Supply 2
+  three : Count → Input → (Output → ⊥) → Given Count Input Output Text Supply 3
+  four : Count → Input → Output → (Text → ⊥) → Given Count Input Output Text Supply 4
+  five : Count → Input → Output → Text → (Supply → ⊥) → Given Count Input Output Text Supply 5
+
+-- what there is afterwards, by that number: what was made, or all as it came
+pub record Settles {A : Type 0} (Count Input Output Text Supply : Type 0) (number : ℕ) (made came after : A) : Type 0 where
+  pub given : Given Count Input Output Text Supply number
+  pub refused-leaves : (number ≡ 0 → ⊥) → after ≡ came
+  pub accepted-is : number ≡ 0 → after ≡ made
+
+-- a call on shares: from what the output slice held and the words lent, its answer and what the output slice holds
+abbrev pub OnShares : Type 0
+OnShares = List ℕ → List ℕ → Answer × List ℕ
+
+-- It takes n shares, an input, an output slice of `size` entries and a text, and draws d words, by its rule.
+pub record Follows (n : ℕ) (Input : Type 0) (size : ℕ) (Text : Type 0) (d : ℕ) (rule : Draw (List ℕ)) (f : OnShares) : Type 0 where
+  -- refused, the output slice is as it came and the count is 0; accepted, both are the rule's, from place 0
+  pub outcome : (came ws : List ℕ) → (let o = f came ws in
+      Settles (Allowed n) Input (length came ≡ size) Text (d ≤ length ws) (o .0 .number)
+      (rule ws 0) (came, 0) (o .1, o .0 .drawn))
+  pub count : (came ws : List ℕ) → f came ws .0 .number ≡ 0 → f came ws .0 .drawn ≡ d
+  -- any supply that begins with the same d words gives the same outcome
+  pub past-draws : (came ws vs : List ℕ) → f came ws .0 .number ≡ 0 → take d ws ≡ take d vs → f came ws ≡ f came vs
+
+-- whatever words of k bits it draws from, what it hands back where it is accepted is as P says
+pub record Makes (k : ℕ) (f : OnShares) (P : List ℕ → Type 0) : Type 0 where
+  pub made : (came ws : List ℕ) → Words k ws → f came ws .0 .number ≡ 0 → P (f came ws .1)
