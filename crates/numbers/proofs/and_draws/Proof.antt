@@ -1,14 +1,14 @@
--- the numbers told are what the rule draws
-use mathlib.Core.Path.{refl}
+-- the number told for each share count is what the rule draws
+use mathlib.Core.Path.{refl, _∙_}
 use borrow.Author.Needs.{needs}
 use Rattle.rules.specs.Counts.{andDraws}
-use Rattle.rules.proofs.Allowed.{by-count}
+use Rattle.numbers.proofs.Tests.{by-count}
 use Rattle.numbers.proofs.and_draws.Statement.{statement}
 use Rattle.numbers.proofs.and_draws.Tie as tie
 
 returns : tie.Need-returns
 unfolding andDraws
-returns c = by-count andDraws (c .before .args .n) (c .by-count .result) 1 6 28 refl refl refl refl (c .by-count .ensures .1)
+returns c = c .by-count .ensures ∙ by-count andDraws (c .before .args .n) 1 6 28 refl refl refl refl
 
 pub and-draws-spec : {M : Type 1} → statement M
 and-draws-spec = tie.close (tie.spec (λ c κs. search needs) returns)

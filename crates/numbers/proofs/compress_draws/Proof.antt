@@ -1,14 +1,14 @@
--- the numbers told are what the rule draws
-use native.Mathlib.Omega.{arith}
+-- the number told for each share count is what the rule draws
+use mathlib.Core.Path.{_∙_}
 use borrow.Author.Needs.{needs}
 use Rattle.rules.specs.Counts.{compressDraws}
 use Rattle.rules.proofs.Sizes.{compress-count}
-use Rattle.rules.proofs.Allowed.{by-count}
+use Rattle.numbers.proofs.Tests.{by-count}
 use Rattle.numbers.proofs.compress_draws.Statement.{statement}
 use Rattle.numbers.proofs.compress_draws.Tie as tie
 
 returns : tie.Need-returns
-returns c = (omega (arith, c .by-count .ensures .0), by-count (compressDraws 32) (c .before .args .n) (c .by-count .result) 10440 62640 292320 (compress-count 1) (compress-count 2) (compress-count 4) (compress-count 8) (c .by-count .ensures .1))
+returns c = c .by-count .ensures ∙ by-count (compressDraws 32) (c .before .args .n) 10440 62640 292320 (compress-count 1) (compress-count 2) (compress-count 4) (compress-count 8)
 
 pub compress-draws-spec : {M : Type 1} → statement M
 compress-draws-spec = tie.close (tie.spec (λ c κs. search needs) returns)

@@ -1,13 +1,13 @@
--- the numbers told are what the rule draws
-use mathlib.Core.Path.{refl}
+-- the number told for each share count is what the rule draws
+use mathlib.Core.Path.{refl, _∙_}
 use borrow.Author.Needs.{needs}
 use Rattle.rules.specs.Counts.{refreshDraws}
-use Rattle.rules.proofs.Allowed.{by-count}
+use Rattle.numbers.proofs.Tests.{by-count}
 use Rattle.numbers.proofs.refresh_draws.Statement.{statement}
 use Rattle.numbers.proofs.refresh_draws.Tie as tie
 
 returns : tie.Need-returns
-returns c = by-count refreshDraws (c .before .args .n) (c .by-count .result) 1 3 7 refl refl refl refl (c .by-count .ensures .1)
+returns c = c .by-count .ensures ∙ by-count refreshDraws (c .before .args .n) 1 3 7 refl refl refl refl
 
 pub refresh-draws-spec : {M : Type 1} → statement M
 refresh-draws-spec = tie.close (tie.spec (λ c κs. search needs) returns)

@@ -1,0 +1,100 @@
+-- The first test that is not passed, looked for from the front; and a number for each share count, as a query tells it.
+use Prim.Native.Nat.{ℕ, zero, suc, _+_, _*_, _≤_, _<_}
+use mathlib.Core.Path.{_≡_, refl, sym, ap, _∙_}
+use mathlib.Core.Bool.{Bool, true, false}
+use mathlib.Core.List.{List, [], _∷_}
+use native.Mathlib.Nat.{mul-zero}
+use native.Mathlib.Numerals.{add-one}
+use native.Mathlib.Omega.{arith}
+use lib.Dec.{eqb}
+use lib.ListN.{length, getD, drop, drop-of-length-le}
+use lib.Seq.{drop-cons}
+use borrow.Author.Tests.{eqb-true}
+use Rattle.rules.specs.Numbers.{either, allowed, Test, test, first, settled, told}
+use Rattle.rules.specs.Convert.{choose}
+use Rattle.rules.proofs.Calls.{settled-refused}
+use Rattle.rules.proofs.Allowed.{Count, one, two, four, eight, counted}
+use Rattle.numbers.specs.Tests.{byCount}
+
+-- ---- the first i tests were passed
+module _ (ts : List Test) (i t : ℕ) where
+  first-at : i < length ts → t ≡ getD ts i 0 → first (drop i ts) ≡ settled t (first (drop (i + 1) ts)) t
+  unfolding first
+  first-at h e = rw (e, drop-cons ts i 0, add-one)
+
+  pub first-next : i < length ts → t ≡ getD ts i 0 → t ≡ 0 → first ts ≡ first (drop i ts) → first ts ≡ first (drop (i + 1) ts)
+  first-next h e z inv = inv ∙ rw z at (first-at h e)
+
+  pub first-found : i < length ts → t ≡ getD ts i 0 → (t ≡ 0 → ⊥) → first ts ≡ first (drop i ts) → t ≡ first ts
+  first-found h e z inv = sym (inv ∙ first-at h e ∙ settled-refused t (first (drop (i + 1) ts)) t z)
+
+pub first-none : (ts : List Test) (i : ℕ) → length ts ≤ i → first ts ≡ first (drop i ts) → 0 ≡ first ts
+unfolding first
+first-none ts i h inv = sym (inv ∙ ap first (drop-of-length-le ts h))
+
+-- ---- what a query tells
+told-count : (n d : ℕ) (b : Bool) → allowed n ≡ b → told (test 1 (allowed n) ∷ []) d ≡ choose b d 0
+unfolding first test
+told-count n d true e = rw e
+told-count n d false e = rw e
+
+-- with a text that fits, what is told by the share count; with one that does not, nothing
+pub told-text : (n d : ℕ) (fits : Bool) → fits ≡ true → told (test 1 (allowed n) ∷ []) d ≡ told (test 1 (allowed n) ∷ test 4 fits ∷ []) d
+unfolding first test
+told-text n d fits e = rw e
+
+pub told-none : (n d : ℕ) (fits : Bool) → fits ≡ false → 0 ≡ told (test 1 (allowed n) ∷ test 4 fits ∷ []) d
+unfolding first test
+told-none n d fits e = rw e (go (allowed n))
+  where
+    go : (b : Bool) → 0 ≡ told (test 1 b ∷ test 4 false ∷ []) d
+    go true = refl
+    go false = refl
+
+pub told-times : (tests : List Test) (m d : ℕ) → m * told tests d ≡ told tests (m * d)
+told-times tests m d = go (first tests)
+  where
+    go : (number : ℕ) → m * settled number d 0 ≡ settled number (m * d) 0
+    go zero = refl
+    go (suc number) = mul-zero m
+
+-- a share count that is not taken is none of 2, 4 and 8
+others : (n : ℕ) → allowed n ≡ false → (eqb n 2 ≡ false) × (eqb n 4 ≡ false) × (eqb n 8 ≡ false)
+unfolding allowed
+others n h = go (eqb n 1) (eqb n 2) (eqb n 4) (eqb n 8) h
+  where
+    go : (a b c d : Bool) → either a (either b (either c d)) ≡ false → (b ≡ false) × (c ≡ false) × (d ≡ false)
+    go false false false false h = (refl, refl, refl)
+    go true b c d h = let z : _≡_ {A = ℕ} 0 1 = cc in absurd (omega arith)
+    go false true c d h = let z : _≡_ {A = ℕ} 0 1 = cc in absurd (omega arith)
+    go false false true d h = let z : _≡_ {A = ℕ} 0 1 = cc in absurd (omega arith)
+    go false false false true h = let z : _≡_ {A = ℕ} 0 1 = cc in absurd (omega arith)
+
+-- a number for each share count, by what the rule draws at each
+module _ (d : ℕ → ℕ) (n : ℕ) where
+  pub told-below : (b : ℕ) → d 1 ≤ b → d 2 ≤ b → d 4 ≤ b → d 8 ≤ b → told (test 1 (allowed n) ∷ []) (d n) ≤ b
+  told-below b h₁ h₂ h₄ h₈ = go (allowed n) refl
+    where
+      at : {n : ℕ} → Count n → d n ≤ b
+      at one = h₁
+      at two = h₂
+      at four = h₄
+      at eight = h₈
+
+      go : (t : Bool) → allowed n ≡ t → told (test 1 (allowed n) ∷ []) (d n) ≤ b
+      go true e = rw (told-count n (d n) true e) (at (counted n e))
+      go false e = rw (told-count n (d n) false e) (omega arith)
+
+  pub by-count : (two′ four′ eight′ : ℕ) → d 1 ≡ 0 → d 2 ≡ two′ → d 4 ≡ four′ → d 8 ≡ eight′
+      → byCount n two′ four′ eight′ ≡ told (test 1 (allowed n) ∷ []) (d n)
+  by-count two′ four′ eight′ h₁ h₂ h₄ h₈ = go (allowed n) refl
+    where
+      at : {n : ℕ} → Count n → byCount n two′ four′ eight′ ≡ d n
+      at one = sym h₁
+      at two = sym h₂
+      at four = sym h₄
+      at eight = sym h₈
+
+      go : (t : Bool) → allowed n ≡ t → byCount n two′ four′ eight′ ≡ told (test 1 (allowed n) ∷ []) (d n)
+      go true e = at (counted n e) ∙ sym (told-count n (d n) true e)
+      go false e = let o = others n e in rw (o .0, o .1, o .2) (sym (told-count n (d n) false e))

@@ -1,0 +1,16 @@
+-- the tests, one after the other
+use borrow.Author.Needs.{needs}
+use Rattle.numbers.proofs.opening.Statement.{statement}
+use Rattle.numbers.proofs.opening.Tie as tie
+
+pub opening-spec : {M : Type 1} → statement M
+opening-spec =
+    tie.close
+    (tie.spec
+    (λ c κs. search needs)
+    (λ c κs. search needs)
+    (λ c κs. search needs)
+    (λ c. search needs)
+    (λ c κs. search needs)
+    (λ c. cc)
+    )

@@ -1,0 +1,16 @@
+-- the tests, one after the other
+use borrow.Author.Needs.{needs}
+use Rattle.numbers.proofs.text_query.Statement.{statement}
+use Rattle.numbers.proofs.text_query.Tie as tie
+
+pub text-query-spec : {M : Type 1} → statement M
+text-query-spec =
+    tie.close
+    (tie.spec
+    (λ c κs. search needs)
+    (λ c κs. search needs)
+    (λ c κs. search needs)
+    (λ c. search needs)
+    (λ c κs. search needs)
+    (λ c. cc)
+    )
