@@ -14,23 +14,22 @@ use Rattle.rules.specs.Numbers.{either, allowed, Test, test, first, settled, to
 use Rattle.rules.specs.Convert.{choose}
 use Rattle.rules.proofs.Calls.{settled-refused}
 use Rattle.rules.proofs.Allowed.{Count, one, two, four, eight, counted}
-use Rattle.numbers.specs.Tests.{byCount}
+use Rattle.numbers.specs.Tests.{after, byCount}
 
--- ---- the first i tests were passed
-module _ (ts : List Test) (i t : ℕ) where
-  first-at : i < length ts → t ≡ getD ts i 0 → first (drop i ts) ≡ settled t (first (drop (i + 1) ts)) t
-  unfolding first
-  first-at h e = rw (e, drop-cons ts i 0, add-one)
+-- ---- tests one after the other give what their list gives
+abbrev pub from : ℕ → List Test → ℕ
+from number [] = number
+from number (t ∷ ts) = from (after number t) ts
 
-  pub first-next : i < length ts → t ≡ getD ts i 0 → t ≡ 0 → first ts ≡ first (drop i ts) → first ts ≡ first (drop (i + 1) ts)
-  first-next h e z inv = inv ∙ rw z at (first-at h e)
-
-  pub first-found : i < length ts → t ≡ getD ts i 0 → (t ≡ 0 → ⊥) → first ts ≡ first (drop i ts) → t ≡ first ts
-  first-found h e z inv = sym (inv ∙ first-at h e ∙ settled-refused t (first (drop (i + 1) ts)) t z)
-
-pub first-none : (ts : List Test) (i : ℕ) → length ts ≤ i → first ts ≡ first (drop i ts) → 0 ≡ first ts
+pub first-from : (ts : List Test) → first ts ≡ from 0 ts
 unfolding first
-first-none ts i h inv = sym (inv ∙ ap first (drop-of-length-le ts h))
+first-from [] = refl
+first-from (zero ∷ ts) = first-from ts
+first-from (suc t ∷ ts) = sym (stays t ts)
+  where
+    stays : (number : ℕ) (ts : List Test) → from (suc number) ts ≡ suc number
+    stays number [] = refl
+    stays number (t ∷ ts) = stays number ts
 
 -- ---- what a query tells
 told-count : (n d : ℕ) (b : Bool) → allowed n ≡ b → told (test 1 (allowed n) ∷ []) d ≡ choose b d 0

@@ -1,8 +1,12 @@
--- What the code of this crate goes by: a number for each share count.
+-- What the code of this crate goes by: tests one after the other, and a number for each share count.
 use Prim.Native.Nat.{ℕ}
 use lib.Dec.{eqb}
-use Rattle.rules.specs.Numbers.{largest}
+use Rattle.rules.specs.Numbers.{largest, Test, settled}
 use Rattle.rules.specs.Convert.{choose}
+
+-- one more test: the number so far, or, where that is 0, what this test gives
+abbrev pub after : ℕ → Test → ℕ
+after number t = settled number t number
 
 -- a number for 2, 4 and 8 shares
 abbrev pub byCount : ℕ → ℕ → ℕ → ℕ → ℕ

@@ -1,5 +1,6 @@
 -- the tests, one after the other
 use borrow.Author.Needs.{needs}
+use Rattle.numbers.proofs.Tests.{first-from}
 use Rattle.numbers.proofs.opening.Statement.{statement}
 use Rattle.numbers.proofs.opening.Tie as tie
 
@@ -10,7 +11,5 @@ opening-spec =
     (λ c κs. search needs)
     (λ c κs. search needs)
     (λ c κs. search needs)
-    (λ c. search needs)
-    (λ c κs. search needs)
-    (λ c. cc)
+    (λ c. rw first-from (cc))
     )

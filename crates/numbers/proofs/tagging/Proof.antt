@@ -1,5 +1,6 @@
 -- the tests, one after the other
 use borrow.Author.Needs.{needs}
+use Rattle.numbers.proofs.Tests.{first-from}
 use Rattle.numbers.proofs.tagging.Statement.{statement}
 use Rattle.numbers.proofs.tagging.Tie as tie
 
@@ -14,7 +15,5 @@ tagging-spec =
     (λ c κs. search needs)
     (λ c κs. search needs)
     (λ c κs. search needs)
-    (λ c. search needs)
-    (λ c κs. search needs)
-    (λ c. cc)
+    (λ c. rw first-from (cc))
     )
