@@ -32,30 +32,33 @@ first-from (suc t ∷ ts) = sym (stays t ts)
     stays number (t ∷ ts) = stays number ts
 
 -- ---- what a query tells
-told-count : (n d : ℕ) (b : Bool) → allowed n ≡ b → told (test 1 (allowed n) ∷ []) d ≡ choose b d 0
+pub told-count : (n d : ℕ) → told (test 1 (allowed n) ∷ []) d ≡ choose (allowed n) d 0
 unfolding first test
-told-count n d true e = rw e
-told-count n d false e = rw e
-
--- with a text that fits, what is told by the share count; with one that does not, nothing
-pub told-text : (n d : ℕ) (fits : Bool) → fits ≡ true → told (test 1 (allowed n) ∷ []) d ≡ told (test 1 (allowed n) ∷ test 4 fits ∷ []) d
-unfolding first test
-told-text n d fits e = rw e
-
-pub told-none : (n d : ℕ) (fits : Bool) → fits ≡ false → 0 ≡ told (test 1 (allowed n) ∷ test 4 fits ∷ []) d
-unfolding first test
-told-none n d fits e = rw e (go (allowed n))
+told-count n d = go (allowed n)
   where
-    go : (b : Bool) → 0 ≡ told (test 1 b ∷ test 4 false ∷ []) d
+    go : (b : Bool) → told (test 1 b ∷ []) d ≡ choose b d 0
     go true = refl
     go false = refl
 
-pub told-times : (tests : List Test) (m d : ℕ) → m * told tests d ≡ told tests (m * d)
+-- with a text that fits, what is told by the share count; with one that does not, nothing
+pub told-text : (n d : ℕ) (fits : Bool) → fits ≡ true → told (test 1 (allowed n) ∷ test 4 fits ∷ []) d ≡ told (test 1 (allowed n) ∷ []) d
+unfolding first test
+told-text n d fits e = rw e
+
+pub told-none : (n d : ℕ) (fits : Bool) → fits ≡ false → told (test 1 (allowed n) ∷ test 4 fits ∷ []) d ≡ 0
+unfolding first test
+told-none n d fits e = rw e (go (allowed n))
+  where
+    go : (b : Bool) → told (test 1 b ∷ test 4 false ∷ []) d ≡ 0
+    go true = refl
+    go false = refl
+
+pub told-times : (tests : List Test) (m d : ℕ) → told tests (m * d) ≡ m * told tests d
 told-times tests m d = go (first tests)
   where
-    go : (number : ℕ) → m * settled number d 0 ≡ settled number (m * d) 0
+    go : (number : ℕ) → settled number (m * d) 0 ≡ m * settled number d 0
     go zero = refl
-    go (suc number) = mul-zero m
+    go (suc number) = sym (mul-zero m)
 
 -- a share count that is not taken is none of 2, 4 and 8
 others : (n : ℕ) → allowed n ≡ false → (eqb n 2 ≡ false) × (eqb n 4 ≡ false) × (eqb n 8 ≡ false)
@@ -72,7 +75,7 @@ others n h = go (eqb n 1) (eqb n 2) (eqb n 4) (eqb n 8) h
 -- a number for each share count, by what the rule draws at each
 module _ (d : ℕ → ℕ) (n : ℕ) where
   pub told-below : (b : ℕ) → d 1 ≤ b → d 2 ≤ b → d 4 ≤ b → d 8 ≤ b → told (test 1 (allowed n) ∷ []) (d n) ≤ b
-  told-below b h₁ h₂ h₄ h₈ = go (allowed n) refl
+  told-below b h₁ h₂ h₄ h₈ = rw told-count (go (allowed n) refl)
     where
       at : {n : ℕ} → Count n → d n ≤ b
       at one = h₁
@@ -80,20 +83,20 @@ module _ (d : ℕ → ℕ) (n : ℕ) where
       at four = h₄
       at eight = h₈
 
-      go : (t : Bool) → allowed n ≡ t → told (test 1 (allowed n) ∷ []) (d n) ≤ b
-      go true e = rw (told-count n (d n) true e) (at (counted n e))
-      go false e = rw (told-count n (d n) false e) (omega arith)
+      go : (t : Bool) → allowed n ≡ t → choose t (d n) 0 ≤ b
+      go true e = at (counted n e)
+      go false e = omega arith
 
   pub by-count : (two′ four′ eight′ : ℕ) → d 1 ≡ 0 → d 2 ≡ two′ → d 4 ≡ four′ → d 8 ≡ eight′
-      → byCount n two′ four′ eight′ ≡ told (test 1 (allowed n) ∷ []) (d n)
-  by-count two′ four′ eight′ h₁ h₂ h₄ h₈ = go (allowed n) refl
+      → told (test 1 (allowed n) ∷ []) (d n) ≡ byCount n two′ four′ eight′
+  by-count two′ four′ eight′ h₁ h₂ h₄ h₈ = rw told-count (go (allowed n) refl)
     where
-      at : {n : ℕ} → Count n → byCount n two′ four′ eight′ ≡ d n
-      at one = sym h₁
-      at two = sym h₂
-      at four = sym h₄
-      at eight = sym h₈
+      at : {n : ℕ} → Count n → d n ≡ byCount n two′ four′ eight′
+      at one = h₁
+      at two = h₂
+      at four = h₄
+      at eight = h₈
 
-      go : (t : Bool) → allowed n ≡ t → byCount n two′ four′ eight′ ≡ told (test 1 (allowed n) ∷ []) (d n)
-      go true e = at (counted n e) ∙ sym (told-count n (d n) true e)
-      go false e = let o = others n e in rw (o .0, o .1, o .2) (sym (told-count n (d n) false e))
+      go : (t : Bool) → allowed n ≡ t → choose t (d n) 0 ≡ byCount n two′ four′ eight′
+      go true e = at (counted n e)
+      go false e = let o = others n e in rw (o .0, o .1, o .2)

@@ -8,7 +8,7 @@ use Rattle.numbers.proofs.and_draws.Tie as tie
 
 returns : tie.Need-returns
 unfolding andDraws
-returns c = c .by-count .ensures ∙ by-count andDraws (c .before .args .n) 1 6 28 refl refl refl refl
+returns c = by-count andDraws (c .before .args .n) 1 6 28 refl refl refl refl ∙ c .by-count .ensures
 
 pub and-draws-spec : {M : Type 1} → statement M
 and-draws-spec = tie.close (tie.spec (λ c κs. search needs) returns)

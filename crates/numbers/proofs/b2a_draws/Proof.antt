@@ -9,7 +9,7 @@ use Rattle.numbers.proofs.b2a_draws.Tie as tie
 
 returns : tie.Need-returns
 unfolding andDraws toBoolDrawsIn toBoolDraws
-returns c = c .by-count .ensures ∙ by-count (toArithDraws (addDraws bits) refreshDraws) (c .before .args .n) 68 462 2342 refl refl refl refl
+returns c = by-count (toArithDraws (addDraws bits) refreshDraws) (c .before .args .n) 68 462 2342 refl refl refl refl ∙ c .by-count .ensures
 
 pub b2a-draws-spec : {M : Type 1} → statement M
 b2a-draws-spec = tie.close (tie.spec (λ c κs. search needs) returns)

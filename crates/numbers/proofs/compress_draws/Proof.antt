@@ -8,7 +8,7 @@ use Rattle.numbers.proofs.compress_draws.Statement.{statement}
 use Rattle.numbers.proofs.compress_draws.Tie as tie
 
 returns : tie.Need-returns
-returns c = c .by-count .ensures ∙ by-count (compressDraws 32) (c .before .args .n) 10440 62640 292320 (compress-count 1) (compress-count 2) (compress-count 4) (compress-count 8)
+returns c = by-count (compressDraws 32) (c .before .args .n) 10440 62640 292320 (compress-count 1) (compress-count 2) (compress-count 4) (compress-count 8) ∙ c .by-count .ensures
 
 pub compress-draws-spec : {M : Type 1} → statement M
 compress-draws-spec = tie.close (tie.spec (λ c κs. search needs) returns)

@@ -28,14 +28,15 @@ mul-result c =
     let a = c .before .before .args in
     let few : compressions (a .message) ≤ 68 = omega arith in
     let told = told-below (compressDraws 32) (a .n) most (at 1 (omega arith)) (at 2 (omega arith)) (at 4 (omega arith)) (at 8 (omega arith)) in
-    let each : c .compress-draws .result ≤ most = rw (c .compress-draws .ensures) told in
+    let each : c .compress-draws .result ≤ most = rw (c .compress-draws .ensures) at told in
     omega (arith, mul-le-mul few each)
 
 returns-2 : tie.Need-returns-2
 returns-2 c =
     let a = c .before .before .args in
-    ap (λ d. compressions (a .message) * d) (c .compress-draws .ensures) ∙ told-times _ (compressions (a .message)) (compressDraws 32 (a .n))
-    ∙ told-text (a .n) _ (leb (a .message) longestMessage) (le-leb _ _ (c .before .if1 .left))
+    told-text (a .n) _ (leb (a .message) longestMessage) (le-leb _ _ (c .before .if1 .left))
+    ∙ told-times _ (compressions (a .message)) (compressDraws 32 (a .n))
+    ∙ ap (λ d. compressions (a .message) * d) (c .compress-draws .ensures)
 
 pub hmac-draws-spec : {M : Type 1} → statement M
 hmac-draws-spec = tie.close (tie.spec returns (λ c. search needs) (λ c. search needs) (λ c κs. search needs) mul-result returns-2)

@@ -15,8 +15,8 @@ returns c = told-none _ _ _ (lt-leb _ _ (c .if1 .taken))
 returns-2 : tie.Need-returns-2
 returns-2 c =
     let a = c .before .before .args in
-    c .by-count .ensures ∙ by-count (λ n. 16 * (n - 1)) (a .n) 16 48 112 refl refl refl refl
-    ∙ told-text (a .n) _ (leb (a .key) longestKey) (le-leb _ _ (c .before .if1 .left))
+    told-text (a .n) _ (leb (a .key) longestKey) (le-leb _ _ (c .before .if1 .left))
+    ∙ by-count (λ n. 16 * (n - 1)) (a .n) 16 48 112 refl refl refl refl ∙ c .by-count .ensures
 
 pub key-draws-spec : {M : Type 1} → statement M
 key-draws-spec = tie.close (tie.spec returns (λ c κs. search needs) returns-2)

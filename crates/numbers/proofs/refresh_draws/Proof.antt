@@ -7,7 +7,7 @@ use Rattle.numbers.proofs.refresh_draws.Statement.{statement}
 use Rattle.numbers.proofs.refresh_draws.Tie as tie
 
 returns : tie.Need-returns
-returns c = c .by-count .ensures ∙ by-count refreshDraws (c .before .args .n) 1 3 7 refl refl refl refl
+returns c = by-count refreshDraws (c .before .args .n) 1 3 7 refl refl refl refl ∙ c .by-count .ensures
 
 pub refresh-draws-spec : {M : Type 1} → statement M
 refresh-draws-spec = tie.close (tie.spec (λ c κs. search needs) returns)
