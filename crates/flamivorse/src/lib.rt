@@ -12,6 +12,7 @@ use numbers::b2a_draws;
 use numbers::compress_draws;
 use numbers::compressing;
 use numbers::count_query;
+use numbers::expand_draws;
 use numbers::hmac_draws;
 use numbers::key_draws;
 use numbers::key_splitting;
@@ -137,7 +138,7 @@ pub extern "C" fn flamivorse_refresh(n: usize, x: &[u32], y: &mut [u32], words: 
 pub extern "C" fn flamivorse_expand(n: usize, x: &[u32], y: &mut [u32], words: &[u32]) -> Answer
     ensures { λ r. ⌜ expandCall n (now (x .entry)) (now (y .entry)) (now (words .entry)) ≡ (r, now (y .exit)) ⌝ }
 {
-    let number = widening(n, x.len(), y.len(), words.len());
+    let number = widening(n, x.len(), y.len(), expand_draws(n), words.len());
     if number != DONE {
         return answer(number, 0);
     }
@@ -287,63 +288,90 @@ pub extern "C" fn flamivorse_hmac_sha1(
 pub extern "C" fn flamivorse_split_words(n: usize) -> Answer
     ensures { λ r. ⌜ splitWords n ≡ r ⌝ }
 {
-    answer(count_query(n), refresh_draws(n))
+    Answer {
+        number: count_query(n),
+        drawn: refresh_draws(n),
+    }
 }
 
 #[no_mangle]
 pub extern "C" fn flamivorse_refresh_words(n: usize) -> Answer
     ensures { λ r. ⌜ refreshWords n ≡ r ⌝ }
 {
-    answer(count_query(n), refresh_draws(n))
+    Answer {
+        number: count_query(n),
+        drawn: refresh_draws(n),
+    }
 }
 
 #[no_mangle]
 pub extern "C" fn flamivorse_expand_words(n: usize) -> Answer
     ensures { λ r. ⌜ expandWords n ≡ r ⌝ }
 {
-    answer(count_query(n), n)
+    Answer {
+        number: count_query(n),
+        drawn: expand_draws(n),
+    }
 }
 
 #[no_mangle]
 pub extern "C" fn flamivorse_and_words(n: usize) -> Answer
     ensures { λ r. ⌜ andWords n ≡ r ⌝ }
 {
-    answer(count_query(n), and_draws(n))
+    Answer {
+        number: count_query(n),
+        drawn: and_draws(n),
+    }
 }
 
 #[no_mangle]
 pub extern "C" fn flamivorse_add_words(n: usize) -> Answer
     ensures { λ r. ⌜ addWords 32 n ≡ r ⌝ }
 {
-    answer(count_query(n), add_draws(n))
+    Answer {
+        number: count_query(n),
+        drawn: add_draws(n),
+    }
 }
 
 #[no_mangle]
 pub extern "C" fn flamivorse_a2b_words(n: usize) -> Answer
     ensures { λ r. ⌜ a2bWords 32 n ≡ r ⌝ }
 {
-    answer(count_query(n), a2b_draws(n))
+    Answer {
+        number: count_query(n),
+        drawn: a2b_draws(n),
+    }
 }
 
 #[no_mangle]
 pub extern "C" fn flamivorse_b2a_words(n: usize) -> Answer
     ensures { λ r. ⌜ b2aWords 32 n ≡ r ⌝ }
 {
-    answer(count_query(n), b2a_draws(n))
+    Answer {
+        number: count_query(n),
+        drawn: b2a_draws(n),
+    }
 }
 
 #[no_mangle]
 pub extern "C" fn flamivorse_split_key_words(n: usize, length: usize) -> Answer
     ensures { λ r. ⌜ splitKeyWords n length ≡ r ⌝ }
 {
-    answer(text_query(n, length <= LONGEST_KEY), key_draws(n, length))
+    Answer {
+        number: text_query(n, length <= LONGEST_KEY),
+        drawn: key_draws(n, length),
+    }
 }
 
 #[no_mangle]
 pub extern "C" fn flamivorse_sha1_compress_words(n: usize) -> Answer
     ensures { λ r. ⌜ compressWords 32 n ≡ r ⌝ }
 {
-    answer(count_query(n), compress_draws(n))
+    Answer {
+        number: count_query(n),
+        drawn: compress_draws(n),
+    }
 }
 
 #[no_mangle]

@@ -13,8 +13,10 @@ use borrow.Author.Tests.{eqb-true}
 use Rattle.rules.specs.Numbers.{either, allowed, Test, test, first, settled, told}
 use Rattle.rules.specs.Convert.{choose}
 use Rattle.rules.proofs.Calls.{settled-refused}
+use Rattle.rules.specs.declared.Answer.{Answer}
+use Rattle.rules.specs.Calls.{query}
 use Rattle.rules.proofs.Allowed.{Count, one, two, four, eight, counted}
-use Rattle.numbers.specs.Tests.{after, byCount}
+use Rattle.numbers.specs.Tests.{after, byCount, byText}
 
 -- ---- tests one after the other give what their list gives
 abbrev pub from : ℕ → List Test → ℕ
@@ -31,8 +33,8 @@ first-from (suc t ∷ ts) = sym (stays t ts)
     stays number [] = refl
     stays number (t ∷ ts) = stays number ts
 
--- ---- what a query tells
-pub told-count : (n d : ℕ) → told (test 1 (allowed n) ∷ []) d ≡ choose (allowed n) d 0
+-- ---- queries
+told-count : (n d : ℕ) → told (test 1 (allowed n) ∷ []) d ≡ choose (allowed n) d 0
 unfolding first test
 told-count n d = go (allowed n)
   where
@@ -40,25 +42,39 @@ told-count n d = go (allowed n)
     go true = refl
     go false = refl
 
--- with a text that fits, what is told by the share count; with one that does not, nothing
-pub told-text : (n d : ℕ) (fits : Bool) → fits ≡ true → told (test 1 (allowed n) ∷ test 4 fits ∷ []) d ≡ told (test 1 (allowed n) ∷ []) d
-unfolding first test
-told-text n d fits e = rw e
+pub query-count : (n d : ℕ) → query (test 1 (allowed n) ∷ []) d ≡ record { number = first (test 1 (allowed n) ∷ []); drawn = choose (allowed n) d 0 }
+query-count n d = rw told-count
 
-pub told-none : (n d : ℕ) (fits : Bool) → fits ≡ false → told (test 1 (allowed n) ∷ test 4 fits ∷ []) d ≡ 0
-unfolding first test
-told-none n d fits e = rw e (go (allowed n))
-  where
-    go : (b : Bool) → told (test 1 b ∷ test 4 false ∷ []) d ≡ 0
-    go true = refl
-    go false = refl
-
-pub told-times : (tests : List Test) (m d : ℕ) → told tests (m * d) ≡ m * told tests d
+told-times : (tests : List Test) (m d : ℕ) → told tests (m * d) ≡ m * told tests d
 told-times tests m d = go (first tests)
   where
     go : (number : ℕ) → settled number (m * d) 0 ≡ m * settled number d 0
     go zero = refl
     go (suc number) = sym (mul-zero m)
+
+pub query-times : (tests : List Test) (m d : ℕ) (each : Answer) → query tests d ≡ each
+    → query tests (m * d) ≡ record { number = each .number; drawn = m * each .drawn }
+query-times tests m d each e = rw (told-times tests m d, ← e)
+
+pub query-text : (n d : ℕ) (fits : Bool) → query (test 1 (allowed n) ∷ test 4 fits ∷ []) d ≡ byText (query (test 1 (allowed n) ∷ []) d) fits
+unfolding first test
+query-text n d fits = go (allowed n) fits
+  where
+    go : (a b : Bool) → query (test 1 a ∷ test 4 b ∷ []) d ≡ byText (query (test 1 a ∷ []) d) b
+    go true true = refl
+    go true false = refl
+    go false true = refl
+    go false false = refl
+
+-- so many of what another query tells, where the text fits
+pub query-blocks : (n m blocks d : ℕ) (fits : Bool) (each : Answer) → query (test 1 (allowed n) ∷ []) d ≡ each → (fits ≡ true → m ≡ blocks)
+    → query (test 1 (allowed n) ∷ test 4 fits ∷ []) (m * d) ≡ byText (record { number = each .number; drawn = blocks * each .drawn }) fits
+query-blocks n m blocks d fits each e h = query-text n (m * d) fits ∙ go fits h
+  where
+    go : (b : Bool) → (b ≡ true → m ≡ blocks)
+        → byText (query (test 1 (allowed n) ∷ []) (m * d)) b ≡ byText (record { number = each .number; drawn = blocks * each .drawn }) b
+    go true h = rw (← h refl) (ap (λ (q : Answer). byText q true) (query-times (test 1 (allowed n) ∷ []) m d each e))
+    go false h = rw (← e)
 
 -- a share count that is not taken is none of 2, 4 and 8
 others : (n : ℕ) → allowed n ≡ false → (eqb n 2 ≡ false) × (eqb n 4 ≡ false) × (eqb n 8 ≡ false)
@@ -88,8 +104,8 @@ module _ (d : ℕ → ℕ) (n : ℕ) where
       go false e = omega arith
 
   pub by-count : (two′ four′ eight′ : ℕ) → d 1 ≡ 0 → d 2 ≡ two′ → d 4 ≡ four′ → d 8 ≡ eight′
-      → told (test 1 (allowed n) ∷ []) (d n) ≡ byCount n two′ four′ eight′
-  by-count two′ four′ eight′ h₁ h₂ h₄ h₈ = rw told-count (go (allowed n) refl)
+      → query (test 1 (allowed n) ∷ []) (d n) ≡ record { number = first (test 1 (allowed n) ∷ []); drawn = byCount n two′ four′ eight′ }
+  by-count two′ four′ eight′ h₁ h₂ h₄ h₈ = rw (told-count, go (allowed n) refl)
     where
       at : {n : ℕ} → Count n → d n ≡ byCount n two′ four′ eight′
       at one = h₁

@@ -3,11 +3,11 @@ use mathlib.Core.Path.{refl, _∙_}
 use borrow.Author.Needs.{needs}
 use Rattle.rules.specs.Counts.{refreshDraws}
 use Rattle.numbers.proofs.Tests.{by-count}
-use Rattle.numbers.proofs.refresh_draws.Statement.{statement}
-use Rattle.numbers.proofs.refresh_draws.Tie as tie
+use Rattle.numbers.proofs.refresh_words.Statement.{statement}
+use Rattle.numbers.proofs.refresh_words.Tie as tie
 
 returns : tie.Need-returns
 returns c = by-count refreshDraws (c .before .args .n) 1 3 7 refl refl refl refl ∙ c .by-count .ensures
 
-pub refresh-draws-spec : {M : Type 1} → statement M
-refresh-draws-spec = tie.close (tie.spec (λ c κs. search needs) returns)
+pub refresh-words-spec : {M : Type 1} → statement M
+refresh-words-spec = tie.close (tie.spec (λ c κs. search needs) returns)
