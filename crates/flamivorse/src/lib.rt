@@ -7,22 +7,28 @@ use numbers::DONE;
 use numbers::a2b_draws;
 use numbers::add_draws;
 use numbers::and_draws;
+use numbers::answer;
 use numbers::b2a_draws;
-use numbers::both_fit;
 use numbers::compress_draws;
-use numbers::done;
-use numbers::first_number;
+use numbers::compressing;
+use numbers::count_query;
+use numbers::expand_draws;
 use numbers::hmac_draws;
-use numbers::is_times;
 use numbers::key_draws;
-use numbers::key_fits;
-use numbers::message_fits;
+use numbers::key_splitting;
+use numbers::one_input;
+use numbers::opening;
 use numbers::refresh_draws;
-use numbers::refusal;
-use numbers::told;
+use numbers::splitting;
+use numbers::tagging;
+use numbers::text_query;
+use numbers::two_inputs;
+use numbers::widening;
 use rules::Answer;
 use rules::Chain;
 use rules::Compressed;
+use rules::LONGEST_KEY;
+use rules::LONGEST_MESSAGE;
 use rules::Opened;
 
 // ---- two shares
@@ -71,18 +77,11 @@ pub extern "C" fn flamivorse_split(
 ) -> Answer
     ensures { λ r. ⌜ splitCall n value (now (shares .entry)) (now (words .entry)) ≡ (r, now (shares .exit)) ⌝ }
 {
-    let number = first_number(
-        n,
-        true,
-        shares.len() == n,
-        true,
-        refresh_draws(n),
-        words.len(),
-    );
+    let number = splitting(n, shares.len(), refresh_draws(n), words.len());
     if number != DONE {
-        return refusal(number);
+        return answer(number, 0);
     }
-    done(shares::split_at(value, shares, words, 0))
+    answer(DONE, shares::split_at(value, shares, words, 0))
 }
 
 // The XOR of n shares.
@@ -90,7 +89,7 @@ pub extern "C" fn flamivorse_split(
 pub extern "C" fn flamivorse_open_xor(n: usize, shares: &[u32]) -> Opened
     ensures { λ r. ⌜ openXorCall n (now (shares .entry)) ≡ r ⌝ }
 {
-    let number = first_number(n, shares.len() == n, true, true, 0, 0);
+    let number = opening(n, shares.len());
     if number != DONE {
         return Opened {
             number: number,
@@ -108,7 +107,7 @@ pub extern "C" fn flamivorse_open_xor(n: usize, shares: &[u32]) -> Opened
 pub extern "C" fn flamivorse_open_sum(n: usize, shares: &[u32]) -> Opened
     ensures { λ r. ⌜ openSumCall 32 n (now (shares .entry)) ≡ r ⌝ }
 {
-    let number = first_number(n, shares.len() == n, true, true, 0, 0);
+    let number = opening(n, shares.len());
     if number != DONE {
         return Opened {
             number: number,
@@ -126,19 +125,12 @@ pub extern "C" fn flamivorse_open_sum(n: usize, shares: &[u32]) -> Opened
 pub extern "C" fn flamivorse_refresh(n: usize, x: &[u32], y: &mut [u32], words: &[u32]) -> Answer
     ensures { λ r. ⌜ refreshCall n (now (x .entry)) (now (y .entry)) (now (words .entry)) ≡ (r, now (y .exit)) ⌝ }
 {
-    let number = first_number(
-        n,
-        x.len() == n,
-        y.len() == n,
-        true,
-        refresh_draws(n),
-        words.len(),
-    );
+    let number = one_input(n, x.len(), y.len(), refresh_draws(n), words.len());
     if number != DONE {
-        return refusal(number);
+        return answer(number, 0);
     }
     shares::copy(x, y);
-    done(shares::refresh_at(y, words, 0))
+    answer(DONE, shares::refresh_at(y, words, 0))
 }
 
 // 2n shares y of what the n shares x open to.
@@ -146,18 +138,11 @@ pub extern "C" fn flamivorse_refresh(n: usize, x: &[u32], y: &mut [u32], words: 
 pub extern "C" fn flamivorse_expand(n: usize, x: &[u32], y: &mut [u32], words: &[u32]) -> Answer
     ensures { λ r. ⌜ expandCall n (now (x .entry)) (now (y .entry)) (now (words .entry)) ≡ (r, now (y .exit)) ⌝ }
 {
-    let number = first_number(
-        n,
-        x.len() == n,
-        is_times(y.len(), 2, n),
-        true,
-        n,
-        words.len(),
-    );
+    let number = widening(n, x.len(), y.len(), expand_draws(n), words.len());
     if number != DONE {
-        return refusal(number);
+        return answer(number, 0);
     }
-    done(shares::expand_at(x, y, words, 0))
+    answer(DONE, shares::expand_at(x, y, words, 0))
 }
 
 // Shares z of x AND y.
@@ -171,18 +156,11 @@ pub extern "C" fn flamivorse_and(
 ) -> Answer
     ensures { λ r. ⌜ andCall n (now (x .entry)) (now (y .entry)) (now (z .entry)) (now (words .entry)) ≡ (r, now (z .exit)) ⌝ }
 {
-    let number = first_number(
-        n,
-        both_fit(x.len() == n, y.len() == n),
-        z.len() == n,
-        true,
-        and_draws(n),
-        words.len(),
-    );
+    let number = two_inputs(n, x.len(), y.len(), z.len(), and_draws(n), words.len());
     if number != DONE {
-        return refusal(number);
+        return answer(number, 0);
     }
-    done(adder::and_at(x, y, z, words, 0))
+    answer(DONE, adder::and_at(x, y, z, words, 0))
 }
 
 // Shares z of x + y modulo 2^32.
@@ -196,18 +174,11 @@ pub extern "C" fn flamivorse_add(
 ) -> Answer
     ensures { λ r. ⌜ addCall 32 n (now (x .entry)) (now (y .entry)) (now (z .entry)) (now (words .entry)) ≡ (r, now (z .exit)) ⌝ }
 {
-    let number = first_number(
-        n,
-        both_fit(x.len() == n, y.len() == n),
-        z.len() == n,
-        true,
-        add_draws(n),
-        words.len(),
-    );
+    let number = two_inputs(n, x.len(), y.len(), z.len(), add_draws(n), words.len());
     if number != DONE {
-        return refusal(number);
+        return answer(number, 0);
     }
-    done(adder::add_at(x, y, z, words, 0))
+    answer(DONE, adder::add_at(x, y, z, words, 0))
 }
 
 // Boolean shares x of what the arithmetic shares a add up to.
@@ -215,18 +186,11 @@ pub extern "C" fn flamivorse_add(
 pub extern "C" fn flamivorse_a2b(n: usize, a: &[u32], x: &mut [u32], words: &[u32]) -> Answer
     ensures { λ r. ⌜ a2bCall 32 n (now (a .entry)) (now (x .entry)) (now (words .entry)) ≡ (r, now (x .exit)) ⌝ }
 {
-    let number = first_number(
-        n,
-        a.len() == n,
-        x.len() == n,
-        true,
-        a2b_draws(n),
-        words.len(),
-    );
+    let number = one_input(n, a.len(), x.len(), a2b_draws(n), words.len());
     if number != DONE {
-        return refusal(number);
+        return answer(number, 0);
     }
-    done(convert::to_bool(a, x, words, 0))
+    answer(DONE, convert::to_bool(a, x, words, 0))
 }
 
 // Arithmetic shares a of what the Boolean shares x open to.
@@ -234,18 +198,11 @@ pub extern "C" fn flamivorse_a2b(n: usize, a: &[u32], x: &mut [u32], words: &[u3
 pub extern "C" fn flamivorse_b2a(n: usize, x: &[u32], a: &mut [u32], words: &[u32]) -> Answer
     ensures { λ r. ⌜ b2aCall 32 n (now (x .entry)) (now (a .entry)) (now (words .entry)) ≡ (r, now (a .exit)) ⌝ }
 {
-    let number = first_number(
-        n,
-        x.len() == n,
-        a.len() == n,
-        true,
-        b2a_draws(n),
-        words.len(),
-    );
+    let number = one_input(n, x.len(), a.len(), b2a_draws(n), words.len());
     if number != DONE {
-        return refusal(number);
+        return answer(number, 0);
     }
-    done(convert::to_arith(x, a, words, 0))
+    answer(DONE, convert::to_arith(x, a, words, 0))
 }
 
 // ---- SHA-1 and HMAC
@@ -260,18 +217,17 @@ pub extern "C" fn flamivorse_split_key(
 ) -> Answer
     ensures { λ r. ⌜ splitKeyCall n (now (key .entry)) (now (shares .entry)) (now (words .entry)) ≡ (r, now (shares .exit)) ⌝ }
 {
-    let number = first_number(
+    let number = key_splitting(
         n,
-        true,
-        is_times(shares.len(), 16, n),
-        key_fits(key.len()),
-        key_draws(n),
+        shares.len(),
+        key.len(),
+        key_draws(n, key.len()),
         words.len(),
     );
     if number != DONE {
-        return refusal(number);
+        return answer(number, 0);
     }
-    done(hmac::split_key(n, key, shares, words, 0))
+    answer(DONE, keys::split_key(n, key, shares, words, 0))
 }
 
 // One compression of a block of 16n words in shares into a chain.
@@ -284,14 +240,7 @@ pub extern "C" fn flamivorse_sha1_compress(
 ) -> Compressed
     ensures { λ r. ⌜ compressCall 32 n chain (now (block .entry)) (now (words .entry)) ≡ r ⌝ }
 {
-    let number = first_number(
-        n,
-        is_times(block.len(), 16, n),
-        true,
-        true,
-        compress_draws(n),
-        words.len(),
-    );
+    let number = compressing(n, block.len(), compress_draws(n), words.len());
     if number != DONE {
         return Compressed {
             number: number,
@@ -319,18 +268,18 @@ pub extern "C" fn flamivorse_hmac_sha1(
 ) -> Answer
     ensures { λ r. ⌜ hmacCall 32 n (now (key .entry)) (now (message .entry)) (now (tag .entry)) (now (words .entry)) ≡ (r, now (tag .exit)) ⌝ }
 {
-    let number = first_number(
+    let number = tagging(
         n,
-        is_times(key.len(), 16, n),
-        tag.len() == 20,
-        message_fits(message.len()),
+        key.len(),
+        tag.len(),
+        message.len(),
         hmac_draws(n, message.len()),
         words.len(),
     );
     if number != DONE {
-        return refusal(number);
+        return answer(number, 0);
     }
-    done(hmac::hmac_tag(n, key, message, tag, words, 0))
+    answer(DONE, hmac::hmac_tag(n, key, message, tag, words, 0))
 }
 
 // ---- how many words a call will draw
@@ -339,68 +288,98 @@ pub extern "C" fn flamivorse_hmac_sha1(
 pub extern "C" fn flamivorse_split_words(n: usize) -> Answer
     ensures { λ r. ⌜ splitWords n ≡ r ⌝ }
 {
-    told(n, true, refresh_draws(n))
+    Answer {
+        number: count_query(n),
+        drawn: refresh_draws(n),
+    }
 }
 
 #[no_mangle]
 pub extern "C" fn flamivorse_refresh_words(n: usize) -> Answer
     ensures { λ r. ⌜ refreshWords n ≡ r ⌝ }
 {
-    told(n, true, refresh_draws(n))
+    Answer {
+        number: count_query(n),
+        drawn: refresh_draws(n),
+    }
 }
 
 #[no_mangle]
 pub extern "C" fn flamivorse_expand_words(n: usize) -> Answer
     ensures { λ r. ⌜ expandWords n ≡ r ⌝ }
 {
-    told(n, true, n)
+    Answer {
+        number: count_query(n),
+        drawn: expand_draws(n),
+    }
 }
 
 #[no_mangle]
 pub extern "C" fn flamivorse_and_words(n: usize) -> Answer
     ensures { λ r. ⌜ andWords n ≡ r ⌝ }
 {
-    told(n, true, and_draws(n))
+    Answer {
+        number: count_query(n),
+        drawn: and_draws(n),
+    }
 }
 
 #[no_mangle]
 pub extern "C" fn flamivorse_add_words(n: usize) -> Answer
     ensures { λ r. ⌜ addWords 32 n ≡ r ⌝ }
 {
-    told(n, true, add_draws(n))
+    Answer {
+        number: count_query(n),
+        drawn: add_draws(n),
+    }
 }
 
 #[no_mangle]
 pub extern "C" fn flamivorse_a2b_words(n: usize) -> Answer
     ensures { λ r. ⌜ a2bWords 32 n ≡ r ⌝ }
 {
-    told(n, true, a2b_draws(n))
+    Answer {
+        number: count_query(n),
+        drawn: a2b_draws(n),
+    }
 }
 
 #[no_mangle]
 pub extern "C" fn flamivorse_b2a_words(n: usize) -> Answer
     ensures { λ r. ⌜ b2aWords 32 n ≡ r ⌝ }
 {
-    told(n, true, b2a_draws(n))
+    Answer {
+        number: count_query(n),
+        drawn: b2a_draws(n),
+    }
 }
 
 #[no_mangle]
 pub extern "C" fn flamivorse_split_key_words(n: usize, length: usize) -> Answer
     ensures { λ r. ⌜ splitKeyWords n length ≡ r ⌝ }
 {
-    told(n, key_fits(length), key_draws(n))
+    Answer {
+        number: text_query(n, length <= LONGEST_KEY),
+        drawn: key_draws(n, length),
+    }
 }
 
 #[no_mangle]
 pub extern "C" fn flamivorse_sha1_compress_words(n: usize) -> Answer
     ensures { λ r. ⌜ compressWords 32 n ≡ r ⌝ }
 {
-    told(n, true, compress_draws(n))
+    Answer {
+        number: count_query(n),
+        drawn: compress_draws(n),
+    }
 }
 
 #[no_mangle]
 pub extern "C" fn flamivorse_hmac_sha1_words(n: usize, length: usize) -> Answer
     ensures { λ r. ⌜ hmacWords 32 n length ≡ r ⌝ }
 {
-    told(n, message_fits(length), hmac_draws(n, length))
+    answer(
+        text_query(n, length <= LONGEST_MESSAGE),
+        hmac_draws(n, length),
+    )
 }

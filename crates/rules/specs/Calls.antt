@@ -10,7 +10,7 @@ use Rattle.rules.specs.declared.Opened.{Opened}
 use Rattle.rules.specs.declared.Chain.{Chain}
 use Rattle.rules.specs.declared.Compressed.{Compressed}
 use Rattle.rules.specs.Supply.{Draw, split, opened, openedSum}
-use Rattle.rules.specs.Numbers.{longestKey, longestMessage, both, allowed, Test, test, first, settled}
+use Rattle.rules.specs.Numbers.{longestKey, longestMessage, both, allowed, Test, test, first, settled, told}
 use Rattle.rules.specs.Goubin.{b2aRecord, a2bRecord}
 use Rattle.rules.specs.Shares.{refresh, expand, and, add}
 use Rattle.rules.specs.Convert.{toBool, toArith}
@@ -42,7 +42,7 @@ abbrev pub a2bRecordCall : ℕ → ℕ → ℕ → ℕ → List ℕ → ℕ × L
 a2bRecordCall k A r G came = recordCall (5 * k + 5) (a2bRecord k A r G) came
 
 -- ---- n shares: a call starts at place 0; after its own tests, 5 where the supply has fewer words than its rule draws
-abbrev pub call : List Test → Draw (List ℕ) → List ℕ → List ℕ → Answer × List ℕ
+unfoldable pub call : List Test → Draw (List ℕ) → List ℕ → List ℕ → Answer × List ℕ
 call tests rule came ws =
     let made = rule ws 0 in
     let number = first (tests ++ (test 5 (leb (made .1) (length ws)) ∷ [])) in
@@ -52,12 +52,19 @@ abbrev pub splitCall : ℕ → ℕ → List ℕ → List ℕ → Answer × List 
 splitCall n value came = call (test 1 (allowed n) ∷ test 3 (eqb (length came) n) ∷ []) (split n value) came
 
 -- one input of n shares, m shares out
+abbrev pub oneTests : ℕ → ℕ → List ℕ → List ℕ → List Test
+oneTests n m x came = test 1 (allowed n) ∷ test 2 (eqb (length x) n) ∷ test 3 (eqb (length came) m) ∷ []
+
 abbrev pub oneCall : ℕ → ℕ → List ℕ → Draw (List ℕ) → List ℕ → List ℕ → Answer × List ℕ
-oneCall n m x rule came = call (test 1 (allowed n) ∷ test 2 (eqb (length x) n) ∷ test 3 (eqb (length came) m) ∷ []) rule came
+oneCall n m x rule came = call (oneTests n m x came) rule came
 
 -- two inputs of n shares, n shares out
+abbrev pub twoTests : ℕ → List ℕ → List ℕ → List ℕ → List Test
+twoTests n x y came =
+    test 1 (allowed n) ∷ test 2 (both (eqb (length x) n) (eqb (length y) n)) ∷ test 3 (eqb (length came) n) ∷ []
+
 abbrev pub twoCall : ℕ → List ℕ → List ℕ → Draw (List ℕ) → List ℕ → List ℕ → Answer × List ℕ
-twoCall n x y rule came = call (test 1 (allowed n) ∷ test 2 (both (eqb (length x) n) (eqb (length y) n)) ∷ test 3 (eqb (length came) n) ∷ []) rule came
+twoCall n x y rule came = call (twoTests n x y came) rule came
 
 abbrev pub refreshCall : ℕ → List ℕ → List ℕ → List ℕ → Answer × List ℕ
 refreshCall n x = oneCall n n x (refresh x)
@@ -114,9 +121,7 @@ openSumCall k n a = openCall n a (openedSum k a)
 
 -- ---- queries: how many words a call will draw
 abbrev pub query : List Test → ℕ → Answer
-query tests drawn =
-    let number = first tests in
-    record { number = number; drawn = settled number drawn 0 }
+query tests drawn = record { number = first tests; drawn = told tests drawn }
 
 abbrev pub splitWords : ℕ → Answer
 splitWords n = query (test 1 (allowed n) ∷ []) (n - 1)

@@ -27,24 +27,24 @@ both false b = false
 unfoldable pub allowed : ℕ → Bool
 allowed n = either (eqb n 1) (either (eqb n 2) (either (eqb n 4) (eqb n largest)))
 
--- a number, and whether what it asks for is there
-pub record Test : Type 0 where
-  pub number : ℕ
-  pub passed : Bool
-
-abbrev pub test : ℕ → Bool → Test
-test number passed = record { number = number; passed = passed }
-
-abbrev pub orElse : Bool → ℕ → ℕ → ℕ
-orElse true rest number = rest
-orElse false rest number = number
-
--- the tests of a call, in order: the first that is not passed gives its number; 0 where all are
-unfoldable pub first : List Test → ℕ
-first [] = 0
-first (t ∷ ts) = orElse (t .passed) (first ts) (t .number)
-
 -- what there is afterwards: at number 0 what was done, else what a refusal leaves
 abbrev pub settled : {A : Type 0} → ℕ → A → A → A
 settled zero done refused = done
 settled (suc number) done refused = refused
+
+-- a test: 0 where it is passed, else its number
+abbrev pub Test : Type 0
+Test = ℕ
+
+unfoldable pub test : ℕ → Bool → Test
+test number true = 0
+test number false = number
+
+-- the tests of a call, in order: the first that is not passed gives its number; 0 where all are
+unfoldable pub first : List Test → ℕ
+first [] = 0
+first (t ∷ ts) = settled t (first ts) t
+
+-- how many words a query tells: 0 where it refuses
+abbrev pub told : List Test → ℕ → ℕ
+told tests drawn = settled (first tests) drawn 0

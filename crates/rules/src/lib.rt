@@ -1,4 +1,12 @@
-// The rules of the library, as definitions over a width k and any number of shares. No code: only the types that answers have.
+// The rules of the library, as definitions over a width k and any number of shares. No code: only the limits, and the types that answers have.
+
+// The largest share count: room for shares is made for so many.
+pub const LARGEST: usize = 8;
+
+// The longest key given for splitting, and the longest message, in bytes.
+pub const LONGEST_KEY: usize = 64;
+
+pub const LONGEST_MESSAGE: usize = 4096;
 
 // What a call on shares hands back: the number of section 3, and how many words it drew.
 #[repr(C)]

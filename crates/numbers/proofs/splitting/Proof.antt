@@ -1,0 +1,16 @@
+-- the tests, one after the other
+use borrow.Author.Needs.{needs}
+use Rattle.numbers.proofs.Tests.{first-from}
+use Rattle.numbers.proofs.splitting.Statement.{statement}
+use Rattle.numbers.proofs.splitting.Tie as tie
+
+pub splitting-spec : {M : Type 1} → statement M
+splitting-spec =
+    tie.close
+    (tie.spec
+    (λ c κs. search needs)
+    (λ c κs. search needs)
+    (λ c κs. search needs)
+    (λ c κs. search needs)
+    (λ c. rw first-from (cc))
+    )

@@ -1,0 +1,19 @@
+-- the tests, one after the other
+use borrow.Author.Needs.{needs}
+use Rattle.numbers.proofs.Tests.{first-from}
+use Rattle.numbers.proofs.tagging.Statement.{statement}
+use Rattle.numbers.proofs.tagging.Tie as tie
+
+pub tagging-spec : {M : Type 1} → statement M
+tagging-spec =
+    tie.close
+    (tie.spec
+    (λ c κs. search needs)
+    (λ c κs. search needs)
+    (λ c κs. search needs)
+    (λ c κs. search needs)
+    (λ c κs. search needs)
+    (λ c κs. search needs)
+    (λ c κs. search needs)
+    (λ c. rw first-from (cc))
+    )

@@ -1,0 +1,18 @@
+-- the tests, one after the other
+use borrow.Author.Needs.{needs}
+use Rattle.numbers.proofs.Tests.{first-from}
+use Rattle.numbers.proofs.widening.Statement.{statement}
+use Rattle.numbers.proofs.widening.Tie as tie
+
+pub widening-spec : {M : Type 1} → statement M
+widening-spec =
+    tie.close
+    (tie.spec
+    (λ c κs. search needs)
+    (λ c κs. search needs)
+    (λ c κs. search needs)
+    (λ c κs. search needs)
+    (λ c κs. search needs)
+    (λ c κs. search needs)
+    (λ c. rw first-from (cc))
+    )
