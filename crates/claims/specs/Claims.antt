@@ -13,7 +13,7 @@ use Rattle.rules.specs.declared.Answer.{Answer}
 use Rattle.rules.specs.declared.Chain.{Chain}
 use Rattle.rules.specs.declared.Compressed.{Compressed}
 use Rattle.rules.specs.Supply.{Shares, Words, split, opened, total}
-use Rattle.rules.specs.Numbers.{first}
+use Rattle.rules.specs.Numbers.{test, first}
 use Rattle.rules.specs.Goubin.{b2aRecord, a2bRecord}
 use Rattle.rules.specs.Independent.{Independent}
 use Rattle.rules.specs.Shares.{refresh, expand, and, add}
@@ -24,7 +24,7 @@ use Rattle.rules.specs.Standard.{SHA1, ROTL, complement, Ch, Parity, Maj, f, sc
 use Rattle.rules.specs.Sha1.{openWords, used, compress as compressShares}
 use Rattle.rules.specs.Hmac.{splitKey, hmacTag}
 use Rattle.rules.specs.Counts.{addDraws, toBoolDraws, sha1}
-use Rattle.rules.specs.Calls.{b2aTwo, a2bTwo, b2aRecordCall, a2bRecordCall, splitCall, openXorCall, openSumCall}
+use Rattle.rules.specs.Calls.{call, b2aTwo, a2bTwo, b2aRecordCall, a2bRecordCall, splitCall, openXorCall, openSumCall}
 use Rattle.rules.specs.Calls.{refreshCall, expandCall, andCall, addCall, a2bCall, b2aCall, splitKeyCall, compressCall, hmacCall}
 use Rattle.rules.specs.Outcome.{Allowed, None, Given, Settles, Follows, Makes}
 use Rattle.rules.proofs.Outcomes.{untested, says-eq, says-le, says-two, exactly, follows, makes, makes-as}
@@ -80,7 +80,7 @@ pub record CallsFollow (n : ℕ) : Type 0 where
       (hmacTag (sha1 32) n key text) (hmacCall 32 n key text)
 
 pub calls-follow : (n : ℕ) → CallsFollow n
-unfolding first
+unfolding first test call
 calls-follow n =
     record {
       split-follows = λ value. follows untested untested (λ c i t. split-rule n value (some n c));

@@ -16,7 +16,7 @@ use Rattle.words.proofs.Words.{xor-back}
 use Rattle.rules.specs.declared.Chain.{Chain}
 use Rattle.rules.specs.declared.Compressed.{Compressed}
 use Rattle.rules.specs.Supply.{Draw, Rule, Shares, Words, opened, total}
-use Rattle.rules.specs.Numbers.{allowed, first}
+use Rattle.rules.specs.Numbers.{allowed, test, first}
 use Rattle.rules.specs.Shares.{refresh, expand, and, add}
 use Rattle.rules.specs.Convert.{toBool, toArith}
 use Rattle.rules.specs.Hash.{hmac}
@@ -24,7 +24,7 @@ use Rattle.rules.specs.Standard.{SHA1, compress as compressOf}
 use Rattle.rules.specs.Sha1.{openWords, compress, used, chainOf}
 use Rattle.rules.specs.Hmac.{splitKey, hmacTag}
 use Rattle.rules.specs.Counts.{andDraws, addDraws, refreshDraws, toBoolDraws, toArithDraws, sha1}
-use Rattle.rules.specs.Calls.{compressCall, a2bCall, b2aCall, hmacCall}
+use Rattle.rules.specs.Calls.{call, compressCall, a2bCall, b2aCall, hmacCall}
 use Rattle.rules.specs.Outcome.{Allowed, None, Given, Settles, Makes}
 use Rattle.rules.proofs.Rule.{said, counted}
 use Rattle.rules.proofs.Openings.{opened-lt}
@@ -102,6 +102,7 @@ module _ (n : ℕ) (count : Allowed n) where
 
     pub there-back : (ws : List ℕ) → Words 32 ws
         → Makes 32 (a2bCall 32 n (toArith 32 (add 32) refresh x ws 0 .0)) (λ y. opened y ≡ opened x)
+    unfolding call
     there-back ws w =
         record {
           made = λ came vs w′ h.
@@ -111,6 +112,7 @@ module _ (n : ℕ) (count : Allowed n) where
 
     pub back-there : (ws : List ℕ) → Words 32 ws
         → Makes 32 (b2aCall 32 n (toBool (add 32) x ws 0 .0)) (λ b. total b % 2 ^ 32 ≡ total x % 2 ^ 32)
+    unfolding call
     back-there ws w =
         record {
           made = λ came vs w′ h.
@@ -136,6 +138,7 @@ module _ (n : ℕ) (count : Allowed n) where
 
   pub tags : (key text : List ℕ) → Words 8 key → Words 8 text → length key ≤ 64 → (ws : List ℕ)
       → Makes 32 (hmacCall 32 n (splitKey (SHA1 32) n key ws 0 .0) text) (λ tag. tag ≡ hmac (SHA1 32) key text)
+  unfolding call
   tags key text keys texts short ws =
       let shares = splitKey (SHA1 32) n key ws 0 .0 in
       record {
@@ -188,7 +191,7 @@ module _ (n : ℕ) (chain : Chain) (block : List ℕ) (whole : length (chain .sh
     o = compressCall 32 n chain block ws
 
     pub compress-number : Given (Allowed n) (length block ≡ 16 * n) None None (d ≤ length ws) (o .number)
-    unfolding first
+    unfolding first test
     compress-number =
         given (says-count n) (says-eq (length block) (16 * n)) untested untested
         (λ c i n t. says-supply (compress-law c i) ws)
@@ -216,7 +219,7 @@ module _ (n : ℕ) (chain : Chain) (block : List ℕ) (whole : length (chain .sh
       -- what stands after the 5n words of the chain, and after the words drawn, has no say
       pub compress-past : (other : Chain) (vs : List ℕ) → take (5 * n) (chain .shares) ≡ take (5 * n) (other .shares)
           → take d ws ≡ take d vs → o ≡ compressCall 32 n other block vs
-      unfolding first used
+      unfolding first test used
       compress-past other vs front same =
           let enough = asks-for .4 in
           rw (

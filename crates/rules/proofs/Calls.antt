@@ -23,7 +23,7 @@ use Rattle.rules.proofs.Openings.{opened-lt}
 use Rattle.rules.proofs.Pairs.{refresh-rule, and-rule}
 use Rattle.rules.proofs.Addition.{add-loop-rule, expand-rule, split-rule}
 use Rattle.rules.proofs.Conversion.{add-adds, refresh-refreshes, toBool-rule, toArith-rule}
-use Rattle.rules.proofs.Sizes.{compress-sized, hmacTag-sized, splitKey-sized}
+use Rattle.rules.proofs.Sizes.{splitKey-sized}
 use Rattle.rules.proofs.Allowed.{within, power-of}
 
 -- No two differing outcomes satisfy one promise: each promise is an equation to a definition.

@@ -64,7 +64,7 @@ passed (no p) h = absurd (p h)
 
 -- ---- the number of five tests, in order; of the last it is asked only where the others are passed
 given-last : {A B C D E : Type 0} {e : Bool} → A → B → C → D → Says E e → Given A B C D E (first (test 5 e ∷ []))
-unfolding first
+unfolding first test
 given-last p q r s (yes t) = done p q r s t
 given-last p q r s (no t) = five p q r s t
 
@@ -134,14 +134,17 @@ module _ (n size d : ℕ) {Input Text : Type 0} (input text : Bool) {P : List �
     number = of came ws .0 .number
 
     number-is : Given (Allowed n) Input (length came ≡ size) Text (d ≤ length ws) number
+    unfolding call
     number-is =
         given (says-count n) says-input (says-eq (length came) size) says-text
         (λ c i o t. says-supply (law c i t) ws)
 
     draws-so : number ≡ 0 → of came ws .0 .drawn ≡ d
+    unfolding call
     draws-so h = let a = asked number-is h in rw h (place (law (a .0) (a .1) (a .3)) ws)
 
     past : (vs : List ℕ) → number ≡ 0 → take d ws ≡ take d vs → of came ws ≡ of came vs
+    unfolding call
     past vs h same =
         let a = asked number-is h in
         let l = law (a .0) (a .1) (a .3) in
@@ -149,6 +152,7 @@ module _ (n size d : ℕ) {Input Text : Type 0} (input text : Bool) {P : List �
         rw (← alike l ws vs same (a .4), place l ws, le-leb d (length ws) (a .4), le-leb d (length vs) long)
 
   followed : Follows n Input size Text d rule of
+  unfolding call
   followed =
       record {
         outcome = λ came ws.
@@ -204,14 +208,14 @@ module _ {n size d k : ℕ} {Input Text : Type 0} {rule : Draw (List ℕ)} {f : 
 -- ---- openings and records
 pub open-settles : (n : ℕ) (x : List ℕ) (word : ℕ)
     → (let o = openCall n x word in Settles (Allowed n) (length x ≡ n) None None None (o .number) word 0 (o .word))
-unfolding first
+unfolding first test
 open-settles n x word =
     settles (openCall n x word .number) word 0 _
     (given (says-count n) (says-eq (length x) n) untested untested (λ c i o t. untested)) refl
 
 pub record-settles : (size : ℕ) (steps came : List ℕ)
     → (let o = recordCall size steps came in Settles None None (length came ≡ size) None None (o .0) steps came (o .1))
-unfolding first
+unfolding first test
 record-settles size steps came =
     settles (recordCall size steps came .0) steps came _
     (given untested untested (says-eq (length came) size) untested (λ c i o t. untested)) refl
