@@ -10,7 +10,7 @@ ghost use Rattle.rules.specs.Shares.{each, pass, along, cross, and, doubleXor, 
 ghost use Rattle.rules.specs.Counts.{andDraws, addDraws};
 ghost use Rattle.width.specs.Width.{bits};
 ghost use Rattle.adder.specs.Carried.{carried};
-use shares::LARGEST;
+use rules::LARGEST;
 use shares::xor_each;
 use supply::draw_at;
 use veil::held;

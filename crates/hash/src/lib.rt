@@ -6,8 +6,8 @@ ghost use Rattle.rules.specs.Numbers.{largest};
 ghost use Rattle.rules.specs.Sha1.{publics, used, chainOf};
 ghost use Rattle.hash.specs.Hash.{hash};
 use rules::Chain;
+use rules::LARGEST;
 use sha1::Stepped;
-use shares::LARGEST;
 
 // Words of a chain, bytes of a word, words of a block.
 pub const WORDS: usize = 5;

@@ -11,7 +11,7 @@ ghost use Rattle.masked_words.specs.Words.{Masked};
 use masked_words::parity;
 use masked_words::public;
 use masked_words::word;
-use shares::LARGEST;
+use rules::LARGEST;
 
 // d XOR (u AND v).
 fn blend(

@@ -16,7 +16,7 @@ use masked_words::rotate;
 use masked_words::word;
 use quarters::constant_of;
 use quarters::quarter_of;
-use shares::LARGEST;
+use rules::LARGEST;
 
 // How many words a state has, and room for them at the largest share count.
 pub const WORDS: usize = 5;

@@ -10,7 +10,7 @@ use masked_words::parity;
 use masked_words::put_word;
 use masked_words::rotate;
 use masked_words::word;
-use shares::LARGEST;
+use rules::LARGEST;
 
 // How many words a block has.
 const BLOCK: usize = 16;

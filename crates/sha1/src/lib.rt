@@ -13,8 +13,8 @@ use masked_words::put_word;
 use masked_words::word;
 use rounds::rounds_at;
 use rules::Chain;
+use rules::LARGEST;
 use schedule::schedule_at;
-use shares::LARGEST;
 
 // How many words a chain has, and room for them at the largest share count: those of a state.
 const WORDS: usize = rounds::WORDS;

@@ -16,9 +16,6 @@ use veil::after;
 use width::Word;
 use width::plus;
 
-// The largest share count: room for shares is made for so many.
-pub const LARGEST: usize = 8;
-
 // y becomes x.
 pub fn copy(x: &[Word], y: &mut [Word])
     requires { ⌜ length (now y) ≡ length (now x) ⌝ }

@@ -7,6 +7,7 @@ use borrow.Author.Needs.{needs}
 use lib.Dec.{leb}
 use Rattle.rules.specs.declared.Answer.{Answer}
 use Rattle.rules.specs.Numbers.{longestMessage}
+use Rattle.rules.specs.Standard.{SHA1}
 use Rattle.rules.specs.Counts.{compressDraws, compressions}
 use Rattle.rules.proofs.Sizes.{compress-count}
 use Rattle.numbers.proofs.Tests.{query-blocks, told-below}
@@ -30,7 +31,7 @@ returns : tie.Need-returns
 returns c =
     let s = c .before .before .before in
     let a = s .before .before .args in
-    query-blocks (a .n) (compressions (a .message)) _ (compressDraws 32 (a .n)) (leb (a .message) longestMessage) _
+    query-blocks (a .n) (compressions (SHA1 32) (a .message)) _ (compressDraws 32 (a .n)) (leb (a .message) longestMessage) _
     (s .before .compress-words .ensures)
     (s .compressions .ensures .1)
     ∙ rw (c .before .answer .ensures) at (c .by-text .ensures)
