@@ -1,6 +1,7 @@
 -- the rounds that are left, from here on, give what all k − 1 give from the start
 use borrow.Author.Needs.{needs}
-use Prim.Native.Nat.{_+_, _-_, _*_, _≤_}
+use native.Mathlib.Omega.{arith}
+use Prim.Native.Nat.{_+_, _-_, _*_, _≤_, _<_}
 use mathlib.Core.Path.{_≡_, refl}
 use lib.ListN.{length}
 use Rattle.width.specs.Width.{bits}
@@ -22,10 +23,14 @@ loop-holds : tie.Need-loop-holds Inv-loop μ-loop
 loop-holds c = (search needs, search needs, search needs, refl)
 
 carry-round-requires : tie.Need-carry-round-requires Inv-loop μ-loop
-carry-round-requires c κs = (search needs, search needs, search needs, search needs, search parts-room)
+carry-round-requires c κs =
+    let more : c .before .before .loop .i < bits - 1 = omega arith in
+    (search needs, search needs, search needs, search needs, search parts-room)
 
 loop-again : tie.Need-loop-again Inv-loop μ-loop
-loop-again c = (search needs, search needs, search needs, search carries-next)
+loop-again c =
+    let more : c .before .before .before .before .before .loop .i < bits - 1 = omega arith in
+    (search needs, search needs, search needs, search carries-next)
 
 returns : tie.Need-returns Inv-loop μ-loop
 returns c = (search carries-end, search parts-end)
