@@ -106,16 +106,16 @@ zeros-after m n h =
     whole = omega arith
 
 module _ (n : ℕ) (z : List ℕ) (size : length z ≡ 5 * n) where
-  record-used : used n (z ++ drop (5 * n - 0) (replicate (5 * largest) 0)) ≡ z
+  record-used : (all : List ℕ) → used n (z ++ drop (5 * n - 0) all) ≡ z
   unfolding used
-  record-used = take-at z (drop (5 * n - 0) (replicate (5 * largest) 0)) (5 * n) size
+  record-used all = take-at z (drop (5 * n - 0) all) (5 * n) size
 
   pub record-chain : n ≤ largest
       → (let r = z ++ drop (5 * n - 0) (replicate (5 * largest) 0) in r ≡ chainOf n (used n r))
   unfolding chainOf
-  record-chain few = rw (record-used, zeros-after (5 * largest) (5 * n) (omega arith))
+  record-chain few = rw (record-used _, zeros-after (5 * largest) (5 * n) (omega arith))
 
-  pub record-made : (k : ℕ) (add : Adder) (chain block ws : List ℕ) (at p : ℕ)
+  pub record-made : (k : ℕ) (add : Adder) (chain block ws all : List ℕ) (at p : ℕ)
       → compress k add n (take (5 * n - 0) chain) block ws at ≡ (z, p)
-      → compress k add n (used n chain) block ws at ≡ (used n (z ++ drop (5 * n - 0) (replicate (5 * largest) 0)), p)
-  record-made k add chain block ws at p e = rw (record-used, ← used-lent n chain) e
+      → compress k add n (used n chain) block ws at ≡ (used n (z ++ drop (5 * n - 0) all), p)
+  record-made k add chain block ws all at p e = rw (record-used all, ← used-lent n chain) e

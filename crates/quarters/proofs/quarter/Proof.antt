@@ -6,16 +6,16 @@ use Rattle.quarters.proofs.quarter.Statement.{statement}
 use Rattle.quarters.proofs.quarter.Tie as tie
 
 choose-requires : tie.Need-choose-requires
-choose-requires c κs = (search needs, search (room-one, inl))
+choose-requires c κs = (search needs, search (room-one, inl, inr))
 
 returns : tie.Need-returns
-returns c = (search chosen-by, search (after-one, inl))
+returns c = (search chosen-by, search (after-one, inl, inr))
 
 majority-requires : tie.Need-majority-requires
-majority-requires c κs = (search needs, search (room-one, inr))
+majority-requires c κs = (search needs, search (room-one, inl, inr))
 
 returns-2 : tie.Need-returns-2
-returns-2 c = (search chosen-by, search (after-one, inr))
+returns-2 c = (search chosen-by, search (after-one, inl, inr))
 
 returns-3 : tie.Need-returns-3
 returns-3 c = (search parity-chosen, search after-none)
