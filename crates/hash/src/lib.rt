@@ -5,27 +5,21 @@ ghost use lib.ListN.{length, set};
 ghost use Rattle.rules.specs.Numbers.{largest};
 ghost use Rattle.rules.specs.Sha1.{publics, used, chainOf};
 ghost use Rattle.hash.specs.Hash.{hash};
+use rules::BLOCK_WORDS;
+use rules::CHAIN;
+use rules::CHAIN_WORDS;
 use rules::Chain;
 use rules::LARGEST;
 use sha1::Stepped;
 
-// Words of a chain, bytes of a word, words of a block.
-pub const WORDS: usize = 5;
-
+// Bytes of a word, of a block and of the padding's length field.
 pub const WORD_BYTES: usize = 4;
 
-pub const BLOCK_WORDS: usize = 16;
-
-// Bytes of a block, of the padding's length field and of a digest.
 pub const BLOCK_BYTES: usize = BLOCK_WORDS * WORD_BYTES;
 
 pub const LENGTH_BYTES: usize = 8;
 
-pub const DIGEST_BYTES: usize = WORDS * WORD_BYTES;
-
-// Room for a chain and for a block at the largest share count.
-const CHAIN: usize = WORDS * LARGEST;
-
+// Room for a block at the largest share count.
 pub const BLOCK: usize = BLOCK_WORDS * LARGEST;
 
 // The first share of word w becomes v.
@@ -61,7 +55,7 @@ pub fn start(n: usize) -> Chain
         0x10325476,
         0xc3d2e1f0,
     ];
-    let end = WORDS * n;
+    let end = CHAIN_WORDS * n;
     let mut all = [0u32; CHAIN];
     let front = &mut all[0..end];
     publish(n, &values, front);

@@ -14,12 +14,12 @@ ghost use Rattle.hash.specs.Hash.{hash};
 ghost use Rattle.padding.specs.Whole.{Hashable, blocksIn};
 use hash::BLOCK;
 use hash::BLOCK_BYTES;
-use hash::BLOCK_WORDS;
 use hash::WORD_BYTES;
-use hash::WORDS;
 use hash::publish;
 use padding::block_words;
 use padding::blocks_in;
+use rules::BLOCK_WORDS;
+use rules::CHAIN_WORDS;
 use rules::Chain;
 use sha1::Stepped;
 
@@ -134,7 +134,7 @@ fn digest_block(n: usize, inner: &[u32], z: &mut [u32])
     ensures { λ _. ⌜ now (z .exit) ≡ now (inner .entry) ++ publics n (digestPadding (hash .standard)) ⌝ }
 {
     let values = [0x80000000u32, 0, 0, 0, 0, 0, 0, 0, 0, 0, 672];
-    let m = WORDS * n;
+    let m = CHAIN_WORDS * n;
     let end = BLOCK_WORDS * n;
     let front = &mut z[0..m];
     shares::copy(inner, front);
@@ -150,7 +150,7 @@ fn digest_step(n: usize, inner: Chain, outer: Chain, words: &[u32], at: usize) -
         ≡ (used n (r .chain .shares), r .at))
         × (r .at ≡ at + hash .draws n) ⌝ }
 {
-    let m = WORDS * n;
+    let m = CHAIN_WORDS * n;
     let end = BLOCK_WORDS * n;
     let all = inner.shares;
     let digest = &all[0..m];
@@ -191,7 +191,7 @@ fn open_bytes(n: usize, digest: &[u32], tag: &mut [u8])
     ensures { λ _. ⌜ now (tag .exit) ≡ allBytes 4 (openWords n 5 (now (digest .entry))) ⌝ }
 {
     let mut w: usize = 0;
-    while w < WORDS {
+    while w < CHAIN_WORDS {
         let v = shares::open_xor(masked_words::word(digest, n, w));
         put_bytes(v, w, tag);
         w += 1;
@@ -203,7 +203,7 @@ pub fn tag_bytes(n: usize, chain: Chain, tag: &mut [u8])
     requires { ⌜ (n ≤ largest) × (length (now tag) ≡ 20) ⌝ }
     ensures { λ _. ⌜ now (tag .exit) ≡ allBytes 4 (openWords n 5 (used n (chain .shares))) ⌝ }
 {
-    let m = WORDS * n;
+    let m = CHAIN_WORDS * n;
     let all = chain.shares;
     open_bytes(n, &all[0..m], tag);
 }

@@ -7,9 +7,9 @@ ghost use Rattle.rules.specs.Hash.{ended, ending};
 ghost use Rattle.hash.specs.Hash.{hash};
 ghost use Rattle.padding.specs.Whole.{Hashable, blocksIn};
 use hash::BLOCK_BYTES;
-use hash::BLOCK_WORDS;
 use hash::LENGTH_BYTES;
 use hash::WORD_BYTES;
+use rules::BLOCK_WORDS;
 
 // How many blocks a text of so many bytes makes with its padding.
 pub fn blocks_in(length: usize) -> usize

@@ -16,12 +16,9 @@ use masked_words::rotate;
 use masked_words::word;
 use quarters::constant_of;
 use quarters::quarter_of;
+use rules::CHAIN;
+use rules::CHAIN_WORDS;
 use rules::LARGEST;
-
-// How many words a state has, and room for them at the largest share count.
-pub const WORDS: usize = 5;
-
-pub const ROOM: usize = WORDS * LARGEST;
 
 // How many rounds there are, and how many to a quarter.
 const ROUNDS: usize = 80;
@@ -135,7 +132,7 @@ fn round_at(n: usize, q: usize, w: &[u32], s: &mut [u32], words: &[u32], at: usi
 {
     let m = s.len();
     let mut t0 = [0u32; LARGEST];
-    let mut z0 = [0u32; ROOM];
+    let mut z0 = [0u32; CHAIN];
     let t = &mut t0[0..n];
     let z = &mut z0[0..m];
     let p = temp_at(n, q, w, s, t, words, at);

@@ -1,4 +1,5 @@
-// The rules of the library, as definitions over a width k and any number of shares. No code: only the limits, and the types that answers have.
+// The rules of the library, as definitions over a width k and any number of shares. No code: only limits and sizes, and the
+// types that answers have.
 
 // The largest share count: room for shares is made for so many.
 pub const LARGEST: usize = 8;
@@ -7,6 +8,15 @@ pub const LARGEST: usize = 8;
 pub const LONGEST_KEY: usize = 64;
 
 pub const LONGEST_MESSAGE: usize = 4096;
+
+// SHA-1's sizes: words of a block and of a chain, bytes of a tag; and room for a chain at the largest share count.
+pub const BLOCK_WORDS: usize = 16;
+
+pub const CHAIN_WORDS: usize = 5;
+
+pub const TAG_BYTES: usize = 20;
+
+pub const CHAIN: usize = CHAIN_WORDS * LARGEST;
 
 // What a call on shares hands back: the number of section 3, and how many words it drew.
 #[repr(C)]
@@ -25,7 +35,7 @@ pub struct Opened {
 // The masked chain value of SHA-1: one record of 40 words, of which 5n are used.
 #[repr(C)]
 pub struct Chain {
-    pub shares: [u32; 40],
+    pub shares: [u32; CHAIN],
 }
 
 // What a compression hands back: the number, how many words it drew, and the new chain.

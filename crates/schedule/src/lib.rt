@@ -10,10 +10,8 @@ use masked_words::parity;
 use masked_words::put_word;
 use masked_words::rotate;
 use masked_words::word;
+use rules::BLOCK_WORDS;
 use rules::LARGEST;
-
-// How many words a block has.
-const BLOCK: usize = 16;
 
 // How many words the schedule has, and room for them at the largest share count.
 pub const WORDS: usize = 80;
@@ -60,7 +58,7 @@ pub fn schedule_at(n: usize, block: &[u32], u: &mut [u32])
     ensures { λ _. ⌜ now (u .exit) ≡ schedule 32 n 64 (now (block .entry)) ⌝ }
 {
     shares::put(block, u, 0);
-    let mut t = BLOCK;
+    let mut t = BLOCK_WORDS;
     while t < WORDS {
         schedule_word(n, t, u);
         t += 1;

@@ -12,14 +12,11 @@ use masked_words::add_in;
 use masked_words::put_word;
 use masked_words::word;
 use rounds::rounds_at;
+use rules::CHAIN;
+use rules::CHAIN_WORDS;
 use rules::Chain;
 use rules::LARGEST;
 use schedule::schedule_at;
-
-// How many words a chain has, and room for them at the largest share count: those of a state.
-const WORDS: usize = rounds::WORDS;
-
-pub const CHAIN: usize = rounds::ROOM;
 
 // ---- the sums at the end
 
@@ -77,7 +74,7 @@ fn sums_at(n: usize, h: &[u32], s: &[u32], z: &mut [u32], words: &[u32], at: usi
 {
     let mut p = at;
     let mut i: usize = 0;
-    while i < WORDS {
+    while i < CHAIN_WORDS {
         p = sum_word(n, i, h, s, z, words, p);
         i += 1;
     }
@@ -133,7 +130,7 @@ pub fn compress(n: usize, chain: Chain, block: &[u32], words: &[u32], at: usize)
         × (r .chain .shares ≡ chainOf n (used n (r .chain .shares)))
         × (r .at ≡ at + compressDraws 32 n) ⌝ }
 {
-    let m = WORDS * n;
+    let m = CHAIN_WORDS * n;
     let all = chain.shares;
     let h = &all[0..m];
     let mut z0 = [0u32; CHAIN];
