@@ -22,19 +22,24 @@ place-in m n w l some h e = omega (arith, place-room m n w h)
 length-publics : (n : ℕ) (vs : List ℕ) → 0 < n → length (publics n vs) ≡ length vs * n
 unfolding publics public
 length-publics n [] h = sym (zero-mul n)
-length-publics n (v ∷ vs) h = rw (suc-mul (length vs) n) (simp (length-append, length-replicate, length-publics n vs h) (omega arith))
+length-publics n (v ∷ vs) h =
+    rw (suc-mul (length vs) n) (simp (length-append, length-replicate, length-publics n vs h) (omega arith))
 
 publics-snoc : (n : ℕ) (s : List ℕ) (v : ℕ) → publics n (s ++ (v ∷ [])) ≡ publics n s ++ public n v
 unfolding publics
 publics-snoc n [] v = append-nil (public n v)
-publics-snoc n (a ∷ s) v = ap (λ (t : List ℕ). public n a ++ t) (publics-snoc n s v) ∙ sym (append-assoc (public n a) (publics n s) (public n v))
+publics-snoc n (a ∷ s) v =
+    ap (λ (t : List ℕ). public n a ++ t) (publics-snoc n s v) ∙ sym (append-assoc (public n a) (publics n s) (public n v))
 
 -- the first word of zeros becomes a public word
-stored : (front : List ℕ) (n v at r : ℕ) → 0 < n → length front ≡ at → set (front ++ replicate (n + r) 0) at v ≡ front ++ public n v ++ replicate r 0
+stored : (front : List ℕ) (n v at r : ℕ) → 0 < n → length front ≡ at
+    → set (front ++ replicate (n + r) 0) at v ≡ front ++ public n v ++ replicate r 0
 unfolding public
 stored front n v at r h e =
     let q : n + r ≡ suc (n - 1 + r) = omega arith in
-    rw q (set-at front 0 (replicate (n - 1 + r) 0) v at e ∙ rw (← replicate-append-replicate {A = ℕ} (n - 1) r 0) (sym (append-assoc front (v ∷ replicate (n - 1) 0) (replicate r 0))))
+    rw q
+    (set-at front 0 (replicate (n - 1 + r) 0) v at e
+    ∙ rw (← replicate-append-replicate {A = ℕ} (n - 1) r 0) (sym (append-assoc front (v ∷ replicate (n - 1) 0) (replicate r 0))))
 
 -- so many words of vs shown, and zeros after them
 abbrev pub shown : ℕ → List ℕ → ℕ → List ℕ
@@ -45,7 +50,8 @@ module _ (n : ℕ) (vs z : List ℕ) where
   unfolding publics
   publics-begins l e p = p ∙ rw (sub-zero (length vs)) (ap (λ i. replicate i 0) e)
 
-  pub publics-next : (w v : ℕ) (y : List ℕ) → 0 < n → w < length vs → v ≡ getD vs w 0 → y ≡ set z (w * n) v → z ≡ shown n vs w → y ≡ shown n vs (w + 1)
+  pub publics-next : (w v : ℕ) (y : List ℕ) → 0 < n → w < length vs → v ≡ getD vs w 0 → y ≡ set z (w * n) v
+      → z ≡ shown n vs w → y ≡ shown n vs (w + 1)
   publics-next w v y some h e f p =
       let m = length vs in
       let front = publics n (take w vs) in
@@ -90,7 +96,9 @@ unfolding chainOf
 start-made n h l e =
     let rest : 40 ≡ 5 * n + (40 - 5 * n) = omega arith in
     rw (e, sub-zero (5 * n))
-    (ap (λ (t : List ℕ). publics n H0 ++ t) (ap (λ i. drop {A = ℕ} (5 * n) (replicate i 0)) rest ∙ ap (drop {A = ℕ} (5 * n)) (sym (replicate-append-replicate {A = ℕ} (5 * n) (40 - 5 * n) 0))
+    (ap (λ (t : List ℕ). publics n H0 ++ t)
+    (ap (λ i. drop {A = ℕ} (5 * n) (replicate i 0)) rest
+    ∙ ap (drop {A = ℕ} (5 * n)) (sym (replicate-append-replicate {A = ℕ} (5 * n) (40 - 5 * n) 0))
     ∙ drop-at (replicate (5 * n) 0) (replicate (40 - 5 * n) 0) (5 * n) (length-replicate {A = ℕ} (5 * n) 0)))
 
 pub start-used : (n : ℕ) → 0 < n → used n (chainOf n (publics n H0)) ≡ publics n H0

@@ -100,7 +100,8 @@ module _ (j d at p count m : ℕ) (same : count ≡ m) where
 -- ---- the digest block: the inner digest d, stored in front of zeros or anything, and the padding x after it
 pub digest-made : (n : ℕ) (inner d x z : List ℕ) → length inner ≡ 5 * n → length z ≡ 16 * n → d ≡ inner
     → x ≡ publics n (0x80000000 ∷ 0 ∷ 0 ∷ 0 ∷ 0 ∷ 0 ∷ 0 ∷ 0 ∷ 0 ∷ 0 ∷ 672 ∷ [])
-    → (let y = d ++ drop (5 * n - 0) z in take (5 * n) y ++ (x ++ drop (16 * n - 5 * n) (drop (5 * n) y)) ≡ inner ++ publics n (digestPadding (SHA1 32)))
+    → (let y = d ++ drop (5 * n - 0) z in
+    take (5 * n) y ++ (x ++ drop (16 * n - 5 * n) (drop (5 * n) y)) ≡ inner ++ publics n (digestPadding (SHA1 32)))
 unfolding wordsOf numberOf padding zeros bytesOf
 digest-made n inner d x z l lz e f =
     let rest = drop (5 * n) z in

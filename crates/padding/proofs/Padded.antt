@@ -71,7 +71,8 @@ module _ (before : ℕ) (text : List ℕ) (i : ℕ) where
 
 -- ---- word i of bytes
 word-of : (m : ℕ) (bs : List ℕ) (i : ℕ) → i < m
-    → getD (wordsOf 4 m bs) i 0 ≡ ((getD bs (4 * i) 0 * 256 + getD bs (4 * i + 1) 0) * 256 + getD bs (4 * i + 2) 0) * 256 + getD bs (4 * i + 3) 0
+    → getD (wordsOf 4 m bs) i 0
+    ≡ ((getD bs (4 * i) 0 * 256 + getD bs (4 * i + 1) 0) * 256 + getD bs (4 * i + 2) 0) * 256 + getD bs (4 * i + 3) 0
 unfolding wordsOf numberOf
 word-of zero bs i h = absurd (omega arith)
 word-of (suc m) bs zero h = omega arith
@@ -123,7 +124,8 @@ module _ (before : ℕ) (text : List ℕ) (aligned : before % 64 ≡ 0) where
 
     length-block : length block ≡ 16
     length-block =
-        length-take-le 16 (drop (16 * j) (ending H before text)) (rw (length-drop (16 * j) (ending H before text)) (omega (arith, length-ending)))
+        let W = ending H before text in
+        length-take-le 16 (drop (16 * j) W) (rw (length-drop (16 * j) W) (omega (arith, length-ending)))
 
     pub block-next : (v : ℕ) → w < length z → v ≡ getD (ending H before text) (16 * j + w) 0 → take w z ≡ take w block
         → take (w + 1) (set z w v) ≡ take (w + 1) block

@@ -133,7 +133,8 @@ module _ (H : Hash) (proper : Proper H) where
         length-append y pad ∙ omega (arith, bytes, proper .rest, parts c (16 - c) (omega (arith, proper .short))) in
         let many : length (y ++ pad) / size ≡ c + (16 - c) =
         ap (λ t. t / size) long ∙ mul-div-right 16 (proper .some) ∙ omega (arith, proper .short) in
-        rw (bytes, many) (words-append size c (16 - c) y pad bytes ∙ ap (λ t. t ++ digestPadding H) (rw (chain .0) at (words-back size D (chain .1))))
+        let back = rw (chain .0) at (words-back size D (chain .1)) in
+        rw (bytes, many) (words-append size c (16 - c) y pad bytes ∙ ap (λ t. t ++ digestPadding H) back)
       where
         parts : (a b : ℕ) → a + b ≡ 16 → a * size + b * size ≡ size * 16
         parts a b e = sym (add-mul a b size) ∙ ap (λ t. t * size) e ∙ mul-comm 16 size

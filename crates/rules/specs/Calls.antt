@@ -4,41 +4,41 @@ use mathlib.Core.List.{List, [], _∷_, _++_}
 use lib.Bits.{bitXor}
 use lib.Dec.{eqb, leb}
 use lib.ListN.{length}
-use Rattle.words.specs.Word.{plus, minus}
+use Rattle.words.specs.Word.{Width, Word, plus, minus}
 use Rattle.rules.specs.declared.Answer.{Answer}
 use Rattle.rules.specs.declared.Opened.{Opened}
 use Rattle.rules.specs.declared.Chain.{Chain}
 use Rattle.rules.specs.declared.Compressed.{Compressed}
-use Rattle.rules.specs.Supply.{Draw, split, opened, openedSum}
+use Rattle.rules.specs.Supply.{Draw, Count, Supply, Sharing, split, opened, openedSum}
 use Rattle.rules.specs.Numbers.{longestKey, longestMessage, both, allowed, Test, test, first, settled, told}
 use Rattle.rules.specs.Goubin.{b2aRecord, a2bRecord}
 use Rattle.rules.specs.Shares.{refresh, expand, and, add}
 use Rattle.rules.specs.Convert.{toBool, toArith}
 use Rattle.rules.specs.Sha1.{compress, used, chainOf}
-use Rattle.rules.specs.Hash.{digestBytes}
+use Rattle.rules.specs.Hash.{Bytes, digestBytes}
 use Rattle.rules.specs.Standard.{SHA1}
 use Rattle.rules.specs.Hmac.{splitKey, hmacTag}
 use Rattle.rules.specs.Counts.{refreshDraws, andDraws, addDraws, toBoolDraws, toArithDraws, compressDraws, hmacDraws, sha1}
 
 -- ---- two shares: working forms take plain numbers and refuse nothing
 -- x − r, from x′ and r with x = x′ ⊕ r
-abbrev pub b2aTwo : ℕ → ℕ → ℕ → ℕ
+abbrev pub b2aTwo : Width → Word → Word → Word
 b2aTwo k x′ r = minus k (bitXor x′ r) r
 
 -- x ⊕ r, from A and r with x = A + r
-abbrev pub a2bTwo : ℕ → ℕ → ℕ → ℕ
+abbrev pub a2bTwo : Width → Word → Word → Word
 a2bTwo k A r = bitXor (plus k A r) r
 
 -- ---- two shares: recording forms give 0, or 3 where the record has not exactly its length
-abbrev pub recordCall : ℕ → List ℕ → List ℕ → ℕ × List ℕ
+abbrev pub recordCall : ℕ → List Word → List Word → ℕ × List Word
 recordCall size steps came =
     let number = first (test 3 (eqb (length came) size) ∷ []) in
     (number, settled number steps came)
 
-abbrev pub b2aRecordCall : ℕ → ℕ → ℕ → ℕ → List ℕ → ℕ × List ℕ
+abbrev pub b2aRecordCall : Width → Word → Word → Word → List Word → ℕ × List Word
 b2aRecordCall k x′ r G came = recordCall 7 (b2aRecord k x′ r G) came
 
-abbrev pub a2bRecordCall : ℕ → ℕ → ℕ → ℕ → List ℕ → ℕ × List ℕ
+abbrev pub a2bRecordCall : Width → Word → Word → Word → List Word → ℕ × List Word
 a2bRecordCall k A r G came = recordCall (5 * k + 5) (a2bRecord k A r G) came
 
 -- ---- n shares: a call starts at place 0; after its own tests, 5 where the supply has fewer words than its rule draws
@@ -48,51 +48,51 @@ call tests rule came ws =
     let number = first (tests ++ (test 5 (leb (made .1) (length ws)) ∷ [])) in
     (record { number = number; drawn = settled number (made .1) 0 }, settled number (made .0) came)
 
-abbrev pub splitCall : ℕ → ℕ → List ℕ → List ℕ → Answer × List ℕ
+abbrev pub splitCall : Count → Word → Sharing → Supply → Answer × Sharing
 splitCall n value came = call (test 1 (allowed n) ∷ test 3 (eqb (length came) n) ∷ []) (split n value) came
 
 -- one input of n shares, m shares out
-abbrev pub oneTests : ℕ → ℕ → List ℕ → List ℕ → List Test
+abbrev pub oneTests : Count → Count → Sharing → Sharing → List Test
 oneTests n m x came = test 1 (allowed n) ∷ test 2 (eqb (length x) n) ∷ test 3 (eqb (length came) m) ∷ []
 
-abbrev pub oneCall : ℕ → ℕ → List ℕ → Draw (List ℕ) → List ℕ → List ℕ → Answer × List ℕ
+abbrev pub oneCall : Count → Count → Sharing → Draw Sharing → Sharing → Supply → Answer × Sharing
 oneCall n m x rule came = call (oneTests n m x came) rule came
 
 -- two inputs of n shares, n shares out
-abbrev pub twoTests : ℕ → List ℕ → List ℕ → List ℕ → List Test
+abbrev pub twoTests : Count → Sharing → Sharing → Sharing → List Test
 twoTests n x y came =
     test 1 (allowed n) ∷ test 2 (both (eqb (length x) n) (eqb (length y) n)) ∷ test 3 (eqb (length came) n) ∷ []
 
-abbrev pub twoCall : ℕ → List ℕ → List ℕ → Draw (List ℕ) → List ℕ → List ℕ → Answer × List ℕ
+abbrev pub twoCall : Count → Sharing → Sharing → Draw Sharing → Sharing → Supply → Answer × Sharing
 twoCall n x y rule came = call (twoTests n x y came) rule came
 
-abbrev pub refreshCall : ℕ → List ℕ → List ℕ → List ℕ → Answer × List ℕ
+abbrev pub refreshCall : Count → Sharing → Sharing → Supply → Answer × Sharing
 refreshCall n x = oneCall n n x (refresh x)
 
-abbrev pub expandCall : ℕ → List ℕ → List ℕ → List ℕ → Answer × List ℕ
+abbrev pub expandCall : Count → Sharing → Sharing → Supply → Answer × Sharing
 expandCall n x = oneCall n (2 * n) x (expand x)
 
-abbrev pub andCall : ℕ → List ℕ → List ℕ → List ℕ → List ℕ → Answer × List ℕ
+abbrev pub andCall : Count → Sharing → Sharing → Sharing → Supply → Answer × Sharing
 andCall n x y = twoCall n x y (and x y)
 
-abbrev pub addCall : ℕ → ℕ → List ℕ → List ℕ → List ℕ → List ℕ → Answer × List ℕ
+abbrev pub addCall : Width → Count → Sharing → Sharing → Sharing → Supply → Answer × Sharing
 addCall k n x y = twoCall n x y (add k x y)
 
-abbrev pub a2bCall : ℕ → ℕ → List ℕ → List ℕ → List ℕ → Answer × List ℕ
+abbrev pub a2bCall : Width → Count → Sharing → Sharing → Supply → Answer × Sharing
 a2bCall k n a = oneCall n n a (toBool (add k) a)
 
-abbrev pub b2aCall : ℕ → ℕ → List ℕ → List ℕ → List ℕ → Answer × List ℕ
+abbrev pub b2aCall : Width → Count → Sharing → Sharing → Supply → Answer × Sharing
 b2aCall k n x = oneCall n n x (toArith k (add k) refresh x)
 
 -- ---- SHA-1 and HMAC
-abbrev pub splitKeyCall : ℕ → List ℕ → List ℕ → List ℕ → Answer × List ℕ
+abbrev pub splitKeyCall : Count → Bytes → Sharing → Supply → Answer × Sharing
 splitKeyCall n key came =
     call
     (test 1 (allowed n) ∷ test 3 (eqb (length came) (16 * n)) ∷ test 4 (leb (length key) longestKey) ∷ [])
     (splitKey (SHA1 32) n key)
     came
 
-abbrev pub hmacCall : ℕ → ℕ → List ℕ → List ℕ → List ℕ → List ℕ → Answer × List ℕ
+abbrev pub hmacCall : Width → Count → Sharing → Bytes → Bytes → Supply → Answer × Bytes
 hmacCall k n key text came =
     call
     (test 1 (allowed n) ∷ test 2 (eqb (length key) (16 * n)) ∷ test 3 (eqb (length came) (digestBytes (SHA1 k)))
@@ -101,54 +101,54 @@ hmacCall k n key text came =
     came
 
 -- a refused compression returns the chain record exactly as given
-abbrev pub compressCall : ℕ → ℕ → Chain → List ℕ → List ℕ → Compressed
+abbrev pub compressCall : Width → Count → Chain → Sharing → Supply → Compressed
 compressCall k n chain block ws =
     let made = compress k (add k) n (used n (chain .shares)) block ws 0 in
     let number = first (test 1 (allowed n) ∷ test 2 (eqb (length block) (16 * n)) ∷ test 5 (leb (made .1) (length ws)) ∷ []) in
     record { number = number; drawn = settled number (made .1) 0; chain = settled number (record { shares = chainOf n (made .0) }) chain }
 
 -- ---- opening: no count, and the word 0 where it is refused
-abbrev pub openCall : ℕ → List ℕ → ℕ → Opened
+abbrev pub openCall : Count → Sharing → Word → Opened
 openCall n x word =
     let number = first (test 1 (allowed n) ∷ test 2 (eqb (length x) n) ∷ []) in
     record { number = number; word = settled number word 0 }
 
-abbrev pub openXorCall : ℕ → List ℕ → Opened
+abbrev pub openXorCall : Count → Sharing → Opened
 openXorCall n x = openCall n x (opened x)
 
-abbrev pub openSumCall : ℕ → ℕ → List ℕ → Opened
+abbrev pub openSumCall : Width → Count → Sharing → Opened
 openSumCall k n a = openCall n a (openedSum k a)
 
 -- ---- queries: how many words a call will draw
 abbrev pub query : List Test → ℕ → Answer
 query tests drawn = record { number = first tests; drawn = told tests drawn }
 
-abbrev pub splitWords : ℕ → Answer
+abbrev pub splitWords : Count → Answer
 splitWords n = query (test 1 (allowed n) ∷ []) (n - 1)
 
-abbrev pub refreshWords : ℕ → Answer
+abbrev pub refreshWords : Count → Answer
 refreshWords n = query (test 1 (allowed n) ∷ []) (refreshDraws n)
 
-abbrev pub expandWords : ℕ → Answer
+abbrev pub expandWords : Count → Answer
 expandWords n = query (test 1 (allowed n) ∷ []) n
 
-abbrev pub andWords : ℕ → Answer
+abbrev pub andWords : Count → Answer
 andWords n = query (test 1 (allowed n) ∷ []) (andDraws n)
 
-abbrev pub addWords : ℕ → ℕ → Answer
+abbrev pub addWords : Width → Count → Answer
 addWords k n = query (test 1 (allowed n) ∷ []) (addDraws k n)
 
-abbrev pub a2bWords : ℕ → ℕ → Answer
+abbrev pub a2bWords : Width → Count → Answer
 a2bWords k n = query (test 1 (allowed n) ∷ []) (toBoolDraws (addDraws k) n)
 
-abbrev pub b2aWords : ℕ → ℕ → Answer
+abbrev pub b2aWords : Width → Count → Answer
 b2aWords k n = query (test 1 (allowed n) ∷ []) (toArithDraws (addDraws k) refreshDraws n)
 
-abbrev pub splitKeyWords : ℕ → ℕ → Answer
+abbrev pub splitKeyWords : Count → ℕ → Answer
 splitKeyWords n length = query (test 1 (allowed n) ∷ test 4 (leb length longestKey) ∷ []) (16 * (n - 1))
 
-abbrev pub compressWords : ℕ → ℕ → Answer
+abbrev pub compressWords : Width → Count → Answer
 compressWords k n = query (test 1 (allowed n) ∷ []) (compressDraws k n)
 
-abbrev pub hmacWords : ℕ → ℕ → ℕ → Answer
+abbrev pub hmacWords : Width → Count → ℕ → Answer
 hmacWords k n length = query (test 1 (allowed n) ∷ test 4 (leb length longestMessage) ∷ []) (hmacDraws (sha1 k) n length)

@@ -14,5 +14,5 @@ start-spec =
     (λ c. search needs)
     (λ c. search needs)
     (λ c κs. search needs)
-    (λ c. start-made (c .before .before .before .before .args .n) _ (c .before .before .before .before .pre .1) (c .before .publish .ensures))
+    (λ c. search start-made)
     )
