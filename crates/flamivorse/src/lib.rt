@@ -4,31 +4,27 @@ ghost use Rattle.rules.specs.Calls.{b2aTwo, a2bTwo, b2aRecordCall, a2bRecordCal
 ghost use Rattle.rules.specs.Calls.{splitWords, refreshWords, expandWords, andWords, addWords, a2bWords, b2aWords};
 ghost use Rattle.rules.specs.Calls.{splitKeyCall, compressCall, hmacCall, splitKeyWords, compressWords, hmacWords};
 use numbers::DONE;
-use numbers::a2b_draws;
-use numbers::add_draws;
-use numbers::and_draws;
+use numbers::a2b_words;
+use numbers::add_words;
+use numbers::and_words;
 use numbers::answer;
-use numbers::b2a_draws;
-use numbers::compress_draws;
+use numbers::b2a_words;
+use numbers::compress_words;
 use numbers::compressing;
-use numbers::count_query;
-use numbers::expand_draws;
-use numbers::hmac_draws;
-use numbers::key_draws;
+use numbers::expand_words;
+use numbers::hmac_words;
 use numbers::key_splitting;
+use numbers::key_words;
 use numbers::one_input;
 use numbers::opening;
-use numbers::refresh_draws;
+use numbers::refresh_words;
 use numbers::splitting;
 use numbers::tagging;
-use numbers::text_query;
 use numbers::two_inputs;
 use numbers::widening;
 use rules::Answer;
 use rules::Chain;
 use rules::Compressed;
-use rules::LONGEST_KEY;
-use rules::LONGEST_MESSAGE;
 use rules::Opened;
 
 // ---- two shares
@@ -77,7 +73,8 @@ pub extern "C" fn flamivorse_split(
 ) -> Answer
     ensures { λ r. ⌜ splitCall n value (now (shares .entry)) (now (words .entry)) ≡ (r, now (shares .exit)) ⌝ }
 {
-    let number = splitting(n, shares.len(), refresh_draws(n), words.len());
+    let need = refresh_words(n).drawn;
+    let number = splitting(n, shares.len(), need, words.len());
     if number != DONE {
         return answer(number, 0);
     }
@@ -125,7 +122,8 @@ pub extern "C" fn flamivorse_open_sum(n: usize, shares: &[u32]) -> Opened
 pub extern "C" fn flamivorse_refresh(n: usize, x: &[u32], y: &mut [u32], words: &[u32]) -> Answer
     ensures { λ r. ⌜ refreshCall n (now (x .entry)) (now (y .entry)) (now (words .entry)) ≡ (r, now (y .exit)) ⌝ }
 {
-    let number = one_input(n, x.len(), y.len(), refresh_draws(n), words.len());
+    let need = refresh_words(n).drawn;
+    let number = one_input(n, x.len(), y.len(), need, words.len());
     if number != DONE {
         return answer(number, 0);
     }
@@ -138,7 +136,8 @@ pub extern "C" fn flamivorse_refresh(n: usize, x: &[u32], y: &mut [u32], words: 
 pub extern "C" fn flamivorse_expand(n: usize, x: &[u32], y: &mut [u32], words: &[u32]) -> Answer
     ensures { λ r. ⌜ expandCall n (now (x .entry)) (now (y .entry)) (now (words .entry)) ≡ (r, now (y .exit)) ⌝ }
 {
-    let number = widening(n, x.len(), y.len(), expand_draws(n), words.len());
+    let need = expand_words(n).drawn;
+    let number = widening(n, x.len(), y.len(), need, words.len());
     if number != DONE {
         return answer(number, 0);
     }
@@ -156,7 +155,8 @@ pub extern "C" fn flamivorse_and(
 ) -> Answer
     ensures { λ r. ⌜ andCall n (now (x .entry)) (now (y .entry)) (now (z .entry)) (now (words .entry)) ≡ (r, now (z .exit)) ⌝ }
 {
-    let number = two_inputs(n, x.len(), y.len(), z.len(), and_draws(n), words.len());
+    let need = and_words(n).drawn;
+    let number = two_inputs(n, x.len(), y.len(), z.len(), need, words.len());
     if number != DONE {
         return answer(number, 0);
     }
@@ -174,7 +174,8 @@ pub extern "C" fn flamivorse_add(
 ) -> Answer
     ensures { λ r. ⌜ addCall 32 n (now (x .entry)) (now (y .entry)) (now (z .entry)) (now (words .entry)) ≡ (r, now (z .exit)) ⌝ }
 {
-    let number = two_inputs(n, x.len(), y.len(), z.len(), add_draws(n), words.len());
+    let need = add_words(n).drawn;
+    let number = two_inputs(n, x.len(), y.len(), z.len(), need, words.len());
     if number != DONE {
         return answer(number, 0);
     }
@@ -186,7 +187,8 @@ pub extern "C" fn flamivorse_add(
 pub extern "C" fn flamivorse_a2b(n: usize, a: &[u32], x: &mut [u32], words: &[u32]) -> Answer
     ensures { λ r. ⌜ a2bCall 32 n (now (a .entry)) (now (x .entry)) (now (words .entry)) ≡ (r, now (x .exit)) ⌝ }
 {
-    let number = one_input(n, a.len(), x.len(), a2b_draws(n), words.len());
+    let need = a2b_words(n).drawn;
+    let number = one_input(n, a.len(), x.len(), need, words.len());
     if number != DONE {
         return answer(number, 0);
     }
@@ -198,7 +200,8 @@ pub extern "C" fn flamivorse_a2b(n: usize, a: &[u32], x: &mut [u32], words: &[u3
 pub extern "C" fn flamivorse_b2a(n: usize, x: &[u32], a: &mut [u32], words: &[u32]) -> Answer
     ensures { λ r. ⌜ b2aCall 32 n (now (x .entry)) (now (a .entry)) (now (words .entry)) ≡ (r, now (a .exit)) ⌝ }
 {
-    let number = one_input(n, x.len(), a.len(), b2a_draws(n), words.len());
+    let need = b2a_words(n).drawn;
+    let number = one_input(n, x.len(), a.len(), need, words.len());
     if number != DONE {
         return answer(number, 0);
     }
@@ -217,13 +220,8 @@ pub extern "C" fn flamivorse_split_key(
 ) -> Answer
     ensures { λ r. ⌜ splitKeyCall n (now (key .entry)) (now (shares .entry)) (now (words .entry)) ≡ (r, now (shares .exit)) ⌝ }
 {
-    let number = key_splitting(
-        n,
-        shares.len(),
-        key.len(),
-        key_draws(n, key.len()),
-        words.len(),
-    );
+    let need = key_words(n, key.len()).drawn;
+    let number = key_splitting(n, shares.len(), key.len(), need, words.len());
     if number != DONE {
         return answer(number, 0);
     }
@@ -240,7 +238,8 @@ pub extern "C" fn flamivorse_sha1_compress(
 ) -> Compressed
     ensures { λ r. ⌜ compressCall 32 n chain (now (block .entry)) (now (words .entry)) ≡ r ⌝ }
 {
-    let number = compressing(n, block.len(), compress_draws(n), words.len());
+    let need = compress_words(n).drawn;
+    let number = compressing(n, block.len(), need, words.len());
     if number != DONE {
         return Compressed {
             number: number,
@@ -268,14 +267,8 @@ pub extern "C" fn flamivorse_hmac_sha1(
 ) -> Answer
     ensures { λ r. ⌜ hmacCall 32 n (now (key .entry)) (now (message .entry)) (now (tag .entry)) (now (words .entry)) ≡ (r, now (tag .exit)) ⌝ }
 {
-    let number = tagging(
-        n,
-        key.len(),
-        tag.len(),
-        message.len(),
-        hmac_draws(n, message.len()),
-        words.len(),
-    );
+    let need = hmac_words(n, message.len()).drawn;
+    let number = tagging(n, key.len(), tag.len(), message.len(), need, words.len());
     if number != DONE {
         return answer(number, 0);
     }
@@ -288,98 +281,68 @@ pub extern "C" fn flamivorse_hmac_sha1(
 pub extern "C" fn flamivorse_split_words(n: usize) -> Answer
     ensures { λ r. ⌜ splitWords n ≡ r ⌝ }
 {
-    Answer {
-        number: count_query(n),
-        drawn: refresh_draws(n),
-    }
+    refresh_words(n)
 }
 
 #[no_mangle]
 pub extern "C" fn flamivorse_refresh_words(n: usize) -> Answer
     ensures { λ r. ⌜ refreshWords n ≡ r ⌝ }
 {
-    Answer {
-        number: count_query(n),
-        drawn: refresh_draws(n),
-    }
+    refresh_words(n)
 }
 
 #[no_mangle]
 pub extern "C" fn flamivorse_expand_words(n: usize) -> Answer
     ensures { λ r. ⌜ expandWords n ≡ r ⌝ }
 {
-    Answer {
-        number: count_query(n),
-        drawn: expand_draws(n),
-    }
+    expand_words(n)
 }
 
 #[no_mangle]
 pub extern "C" fn flamivorse_and_words(n: usize) -> Answer
     ensures { λ r. ⌜ andWords n ≡ r ⌝ }
 {
-    Answer {
-        number: count_query(n),
-        drawn: and_draws(n),
-    }
+    and_words(n)
 }
 
 #[no_mangle]
 pub extern "C" fn flamivorse_add_words(n: usize) -> Answer
     ensures { λ r. ⌜ addWords 32 n ≡ r ⌝ }
 {
-    Answer {
-        number: count_query(n),
-        drawn: add_draws(n),
-    }
+    add_words(n)
 }
 
 #[no_mangle]
 pub extern "C" fn flamivorse_a2b_words(n: usize) -> Answer
     ensures { λ r. ⌜ a2bWords 32 n ≡ r ⌝ }
 {
-    Answer {
-        number: count_query(n),
-        drawn: a2b_draws(n),
-    }
+    a2b_words(n)
 }
 
 #[no_mangle]
 pub extern "C" fn flamivorse_b2a_words(n: usize) -> Answer
     ensures { λ r. ⌜ b2aWords 32 n ≡ r ⌝ }
 {
-    Answer {
-        number: count_query(n),
-        drawn: b2a_draws(n),
-    }
+    b2a_words(n)
 }
 
 #[no_mangle]
 pub extern "C" fn flamivorse_split_key_words(n: usize, length: usize) -> Answer
     ensures { λ r. ⌜ splitKeyWords n length ≡ r ⌝ }
 {
-    Answer {
-        number: text_query(n, length <= LONGEST_KEY),
-        drawn: key_draws(n, length),
-    }
+    key_words(n, length)
 }
 
 #[no_mangle]
 pub extern "C" fn flamivorse_sha1_compress_words(n: usize) -> Answer
     ensures { λ r. ⌜ compressWords 32 n ≡ r ⌝ }
 {
-    Answer {
-        number: count_query(n),
-        drawn: compress_draws(n),
-    }
+    compress_words(n)
 }
 
 #[no_mangle]
 pub extern "C" fn flamivorse_hmac_sha1_words(n: usize, length: usize) -> Answer
     ensures { λ r. ⌜ hmacWords 32 n length ≡ r ⌝ }
 {
-    answer(
-        text_query(n, length <= LONGEST_MESSAGE),
-        hmac_draws(n, length),
-    )
+    hmac_words(n, length)
 }
