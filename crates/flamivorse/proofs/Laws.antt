@@ -18,7 +18,8 @@ use Rattle.rules.specs.Supply.{Draw, Rule, Words, split}
 use Rattle.rules.specs.Numbers.{largest, longestKey, longestMessage, both, allowed, Test, test, first, settled, told}
 use Rattle.rules.specs.Shares.{refresh, expand, and, add}
 use Rattle.rules.specs.Convert.{toBool, toArith}
-use Rattle.rules.specs.Counts.{refreshDraws, andDraws, addDraws, toBoolDraws, toArithDraws, compressDraws, hmacDraws}
+use Rattle.rules.specs.Counts.{refreshDraws, andDraws, addDraws, toBoolDraws, toArithDraws, compressDraws, hmacDraws, sha1}
+use Rattle.rules.specs.Standard.{SHA1}
 use Rattle.rules.specs.Sha1.{compress, used, chainOf}
 use Rattle.rules.specs.Hmac.{splitKey, hmacTag}
 use Rattle.rules.specs.Calls.{call, oneTests, twoTests, openCall, query, compressCall}
@@ -26,7 +27,9 @@ use Rattle.rules.proofs.Openings.{opened-lt}
 use Rattle.rules.proofs.Pairs.{refresh-rule, and-rule}
 use Rattle.rules.proofs.Addition.{add-loop-rule, expand-rule, split-rule}
 use Rattle.rules.proofs.Conversion.{add-adds, refresh-refreshes, toBool-rule, toArith-rule}
-use Rattle.rules.proofs.Sizes.{compress-sized, hmacTag-sized, splitKey-sized}
+use Rattle.rules.proofs.MaskedHmac.{Keeps}
+use Rattle.rules.proofs.Sizes.{Sized, add-sizes, sha1-sizes, compress-sized, hmacTag-sized, splitKey-sized}
+use Rattle.rules.proofs.Tags.{sha1-proper}
 use Rattle.rules.proofs.Loops.{chain-length}
 use Rattle.rules.proofs.Allowed.{within, power-of}
 use Rattle.rules.proofs.Calls.{Passed, passed, same-test, settled-refused}
@@ -209,23 +212,31 @@ pub split-sized : (n value need have number : ℕ) (came ws : List ℕ) (r : Lis
 split-sized n value need have number came ws r is z e = rw (eqb-true (length came) n (holds 2 _ (passed _ (is ∙ z) .1 .0))) at e
 
 -- ---- SHA-1 and HMAC
+sizes : (n : ℕ) → allowed n ≡ true → Keeps (sha1 32) n (λ v. Unit {0}) (Sized n)
+sizes n ok = sha1-sizes 32 n (within n ok .0) 32 (add 32) (add-sizes 32 (omega arith))
+
 module _ (n : ℕ) (came ws : List ℕ) (q : Answer) where
-  pub splitKey-needs : (key : List ℕ) → first (test 1 (allowed n) ∷ test 3 (eqb (length came) (16 * n)) ∷ test 4 (leb (length key) longestKey) ∷ []) ≡ 0
-      → query (test 1 (allowed n) ∷ test 4 (leb (length key) longestKey) ∷ []) (16 * (n - 1)) ≡ q → splitKey n key ws 0 .1 ≡ q .drawn
+  pub splitKey-needs : (key : List ℕ)
+      → first (test 1 (allowed n) ∷ test 3 (eqb (length came) (16 * n)) ∷ test 4 (leb (length key) longestKey) ∷ []) ≡ 0
+      → query (test 1 (allowed n) ∷ test 4 (leb (length key) longestKey) ∷ []) (16 * (n - 1)) ≡ q
+      → splitKey (SHA1 32) n key ws 0 .1 ≡ q .drawn
   splitKey-needs key h e =
       let p = passed _ h in
       let count = holds 0 _ (p .0) in
-      needs (16 * (n - 1)) q _ ws e (taken-text n _ count (holds 3 _ (p .1 .1 .0))) (splitKey-sized n key (within n count .0))
+      needs (16 * (n - 1)) q _ ws e (taken-text n _ count (holds 3 _ (p .1 .1 .0)))
+      (splitKey-sized (SHA1 32) n key (within n count .0))
 
   pub hmacTag-needs : (key text : List ℕ)
-      → first (test 1 (allowed n) ∷ test 2 (eqb (length key) (16 * n)) ∷ test 3 (eqb (length came) 20) ∷ test 4 (leb (length text) longestMessage) ∷ []) ≡ 0
-      → query (test 1 (allowed n) ∷ test 4 (leb (length text) longestMessage) ∷ []) (hmacDraws 32 n (length text)) ≡ q
-      → hmacTag 32 (add 32) n key text ws 0 .1 ≡ q .drawn
+      → first (test 1 (allowed n) ∷ test 2 (eqb (length key) (16 * n)) ∷ test 3 (eqb (length came) 20)
+      ∷ test 4 (leb (length text) longestMessage) ∷ []) ≡ 0
+      → query (test 1 (allowed n) ∷ test 4 (leb (length text) longestMessage) ∷ []) (hmacDraws (sha1 32) n (length text)) ≡ q
+      → hmacTag (sha1 32) n key text ws 0 .1 ≡ q .drawn
   hmacTag-needs key text h e =
       let p = passed _ h in
       let count = holds 0 _ (p .0) in
-      needs (hmacDraws 32 n (length text)) q _ ws e (taken-text n _ count (holds 3 _ (p .1 .1 .1 .0)))
-      (hmacTag-sized 32 n (omega arith) (within n count .0) key text (eqb-true (length key) (16 * n) (holds 1 _ (p .1 .0))))
+      let size = eqb-true (length key) (16 * n) (holds 1 _ (p .1 .0)) in
+      needs (hmacDraws (sha1 32) n (length text)) q _ ws e (taken-text n _ count (holds 3 _ (p .1 .1 .1 .0)))
+      (hmacTag-sized (sha1 32) n (within n count .0) (sizes n count) sha1-proper key text size)
 
 -- a compression: refused, with the chain as it was given, or done
 module _ (n number : ℕ) (chain : Chain) (block ws : List ℕ) (q : Answer)
@@ -247,7 +258,8 @@ module _ (n number : ℕ) (chain : Chain) (block ws : List ℕ) (q : Answer)
           let p = passed _ h in
           let count = holds 0 _ (p .0) in
           needs (compressDraws 32 n) q _ ws e (taken n count)
-          (compress-sized 32 n (omega arith) (within n count .0) (used n (chain .shares)) block (full (within n count .1)) (eqb-true (length block) (16 * n) (holds 1 _ (p .1 .0))))
+          (compress-sized (sha1 32) n (within n count .0) (sizes n count) (used n (chain .shares)) block
+          (full (within n count .1)) (eqb-true (length block) (16 * n) (holds 1 _ (p .1 .0))))
 
   pub compress-refused : (number ≡ 0 → ⊥) → compressCall 32 n chain block ws ≡ record { number = number; drawn = 0; chain = chain }
   compress-refused h = rw (own-compress, settled-refused number (made .1) 0 h, settled-refused number (record { shares = chainOf n (made .0) }) chain h)
