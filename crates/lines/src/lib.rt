@@ -179,7 +179,7 @@ fn wide(b: u8) -> u64 {
 }
 
 // Writes bytes in hex.
-pub fn write_hex(bytes: &[u8]) {
+fn write_hex(bytes: &[u8]) {
     let mut i = 0;
     while i < bytes.len() {
         io::print_hex(STDOUT_FILENO, wide(bytes[i]), 2);
@@ -227,4 +227,30 @@ pub fn complain_of(line: u64, name: &[u8], fault: u8, most: usize) -> bool {
     io::print_decimal(STDOUT_FILENO, most as u64);
     write(b" bytes\n");
     false
+}
+
+// Writes the line of a case: its number, its tag and whether that is right.
+pub fn write_case(number: &[u8], tag: &[u8], right: bool) -> bool {
+    write(b"case ");
+    write(number);
+    write(b" ");
+    write_hex(tag);
+    if right {
+        write(b" ok\n");
+    } else {
+        write(b" WRONG\n");
+    }
+    right
+}
+
+// Writes how many of the cases are right.
+pub fn write_tally(right: u64, cases: u64) {
+    if cases == 0 {
+        write(b"the file has no cases\n");
+        return;
+    }
+    io::print_decimal(STDOUT_FILENO, right);
+    write(b" of ");
+    io::print_decimal(STDOUT_FILENO, cases);
+    write(b" ok\n");
 }

@@ -2,7 +2,6 @@
 // its tag, and whether it is the file's digest. A line that is no case is told with its number. No random words: at one
 // share none are drawn.
 ghost use Prim.Native.Nat.{_≤_};
-use libc::STDOUT_FILENO;
 use lines::FINE;
 use lines::TOO_SHORT;
 
@@ -42,16 +41,7 @@ fn run_case(line: u64, number: &[u8], key: &[u8], data: &[u8], digest: &[u8]) ->
     if !make_tag(key, data, &mut tag) {
         return lines::complain(line, b"the library refuses the case");
     }
-    lines::write(b"case ");
-    lines::write(number);
-    lines::write(b" ");
-    lines::write_hex(&tag);
-    if check::same(&tag, digest) {
-        lines::write(b" ok\n");
-        return true;
-    }
-    lines::write(b" WRONG\n");
-    false
+    lines::write_case(number, &tag, check::same(&tag, digest))
 }
 
 // Reads a line's digest, and runs its case.
@@ -136,14 +126,7 @@ fn read_lines(text: &[u8]) -> Tally
 // Runs the cases of a file, and writes how many of them are right.
 fn run_cases(text: &[u8]) {
     let tally = read_lines(text);
-    if tally.cases == 0 {
-        lines::write(b"the file has no cases\n");
-        return;
-    }
-    io::print_decimal(STDOUT_FILENO, tally.right);
-    lines::write(b" of ");
-    io::print_decimal(STDOUT_FILENO, tally.cases);
-    lines::write(b" ok\n");
+    lines::write_tally(tally.right, tally.cases);
 }
 
 // Reads an open file to its end, and runs it.
