@@ -1,5 +1,5 @@
 -- What the definitions of the calls come to.
-use Prim.Native.Nat.{ℕ, zero, suc, _+_, _*_, _-_, _≤_, _<_}
+use Prim.Native.Nat.{ℕ, zero, suc, _+_, _*_, _-_, _^_, _≤_, _<_}
 use mathlib.Core.Path.{_≡_, refl, sym, ap, _∙_}
 use mathlib.Core.Bool.{Bool, true, false}
 use mathlib.Core.List.{List, [], _∷_, _++_, map}
@@ -151,6 +151,10 @@ module _ {n have number : ℕ} {q : Answer} where
         let short = holds 3 _ (p .1 .1 .1 .0) in
         let size = eqb-true x (16 * n) (holds 1 _ (p .1 .0)) in
         (size, holds 2 _ (p .1 .1 .0), short, ready n drawn have q _ e (taken-text n _ count short) count (p .1 .1 .1 .1 .0))
+
+-- a message that is not too long is far from what 64 bits can count
+pub short-text : (l : ℕ) → leb l longestMessage ≡ true → 64 + l < 2 ^ 60
+short-text l h = omega (arith, leb-true l longestMessage h)
 
 -- ---- what each rule draws is what its query tells, where the tests before the supply were passed
 module _ (n : ℕ) (came ws : List ℕ) (q : Answer) where

@@ -1,7 +1,7 @@
 -- refused, with what that leaves; or the rule
 use borrow.Author.Needs.{needs}
-use borrow.Author.Tests.{eqb-true, leb-true}
-use Rattle.flamivorse.proofs.Laws.{refused, done, tag-ready, hmacTag-needs}
+use borrow.Author.Tests.{eqb-true}
+use Rattle.flamivorse.proofs.Laws.{refused, done, tag-ready, short-text, hmacTag-needs}
 use Rattle.flamivorse.proofs.flamivorse_hmac_sha1.Statement.{statement}
 use Rattle.flamivorse.proofs.flamivorse_hmac_sha1.Tie as tie
 
@@ -11,7 +11,7 @@ returns c = search (refused, hmacTag-needs)
 hmac-tag-requires : tie.Need-hmac-tag-requires
 hmac-tag-requires c κs =
     let p = tag-ready (c .before .before .before .hmac-words .ensures) (c .before .before .tagging .ensures) (c .before .if1 .left) in
-    search (eqb-true, leb-true, needs)
+    search (eqb-true, short-text, needs)
 
 returns-2 : tie.Need-returns-2
 returns-2 c = search (done, hmacTag-needs)
