@@ -15,3 +15,4 @@ pub mod Masked
 pub mod Sizes
 pub mod Opens
 pub mod Tags
+pub mod Tested

@@ -1,4 +1,5 @@
-// The rules of the library, as definitions over a width k and any number of shares. No code: only the limits, and the types that answers have.
+// The rules of the library, as definitions over a width k and any number of shares. No code: only the limits, and the
+// types that answers have.
 
 // The largest share count: room for shares is made for so many.
 pub const LARGEST: usize = 8;

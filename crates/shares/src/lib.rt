@@ -18,7 +18,7 @@ use width::Word;
 use width::plus;
 
 // The largest share count: room for shares is made for so many.
-pub const LARGEST: usize = 8;
+pub const LARGEST: usize = rules::LARGEST;
 
 // The turns of the carry loop: one less than the width.
 const TURNS: usize = BITS - 1;
