@@ -1,6 +1,8 @@
-// The calls that users make. Each takes any arguments at all and says its whole outcome: the answer and every lent buffer afterwards.
+// The calls that users make. Each takes any arguments at all and says its whole outcome: the answer and every lent buffer
+// afterwards.
 ghost use mathlib.Core.Path.{_≡_};
-ghost use Rattle.rules.specs.Calls.{b2aTwo, a2bTwo, b2aRecordCall, a2bRecordCall, splitCall, openXorCall, openSumCall, refreshCall, expandCall, andCall, addCall, a2bCall, b2aCall};
+ghost use Rattle.rules.specs.Calls.{b2aTwo, a2bTwo, b2aRecordCall, a2bRecordCall, splitCall, openXorCall, openSumCall};
+ghost use Rattle.rules.specs.Calls.{refreshCall, expandCall, andCall, addCall, a2bCall, b2aCall};
 ghost use Rattle.rules.specs.Calls.{splitWords, refreshWords, expandWords, andWords, addWords, a2bWords, b2aWords};
 ghost use Rattle.rules.specs.Calls.{splitKeyCall, compressCall, hmacCall, splitKeyWords, compressWords, hmacWords};
 use numbers::DONE;
@@ -265,7 +267,8 @@ pub extern "C" fn flamivorse_hmac_sha1(
     tag: &mut [u8],
     words: &[u32],
 ) -> Answer
-    ensures { λ r. ⌜ hmacCall 32 n (now (key .entry)) (now (message .entry)) (now (tag .entry)) (now (words .entry)) ≡ (r, now (tag .exit)) ⌝ }
+    ensures { λ r. ⌜ hmacCall 32 n (now (key .entry)) (now (message .entry)) (now (tag .entry)) (now (words .entry))
+        ≡ (r, now (tag .exit)) ⌝ }
 {
     let need = hmac_words(n, message.len()).drawn;
     let number = tagging(n, key.len(), tag.len(), message.len(), need, words.len());

@@ -42,7 +42,8 @@ told-count n d = go (allowed n)
     go true = refl
     go false = refl
 
-pub query-count : (n d : ℕ) → query (test 1 (allowed n) ∷ []) d ≡ record { number = first (test 1 (allowed n) ∷ []); drawn = choose (allowed n) d 0 }
+pub query-count : (n d : ℕ)
+    → query (test 1 (allowed n) ∷ []) d ≡ record { number = first (test 1 (allowed n) ∷ []); drawn = choose (allowed n) d 0 }
 query-count n d = rw told-count
 
 told-times : (tests : List Test) (m d : ℕ) → told tests (m * d) ≡ m * told tests d
@@ -56,7 +57,8 @@ pub query-times : (tests : List Test) (m d : ℕ) (each : Answer) → query test
     → query tests (m * d) ≡ record { number = each .number; drawn = m * each .drawn }
 query-times tests m d each e = rw (told-times tests m d, ← e)
 
-pub query-text : (n d : ℕ) (fits : Bool) → query (test 1 (allowed n) ∷ test 4 fits ∷ []) d ≡ byText (query (test 1 (allowed n) ∷ []) d) fits
+pub query-text : (n d : ℕ) (fits : Bool)
+    → query (test 1 (allowed n) ∷ test 4 fits ∷ []) d ≡ byText (query (test 1 (allowed n) ∷ []) d) fits
 unfolding first test
 query-text n d fits = go (allowed n) fits
   where
@@ -67,12 +69,15 @@ query-text n d fits = go (allowed n) fits
     go false false = refl
 
 -- so many of what another query tells, where the text fits
-pub query-blocks : (n m blocks d : ℕ) (fits : Bool) (each : Answer) → query (test 1 (allowed n) ∷ []) d ≡ each → (fits ≡ true → m ≡ blocks)
-    → query (test 1 (allowed n) ∷ test 4 fits ∷ []) (m * d) ≡ byText (record { number = each .number; drawn = blocks * each .drawn }) fits
+pub query-blocks : (n m blocks d : ℕ) (fits : Bool) (each : Answer) → query (test 1 (allowed n) ∷ []) d ≡ each
+    → (fits ≡ true → m ≡ blocks)
+    → query (test 1 (allowed n) ∷ test 4 fits ∷ []) (m * d)
+    ≡ byText (record { number = each .number; drawn = blocks * each .drawn }) fits
 query-blocks n m blocks d fits each e h = query-text n (m * d) fits ∙ go fits h
   where
     go : (b : Bool) → (b ≡ true → m ≡ blocks)
-        → byText (query (test 1 (allowed n) ∷ []) (m * d)) b ≡ byText (record { number = each .number; drawn = blocks * each .drawn }) b
+        → byText (query (test 1 (allowed n) ∷ []) (m * d)) b
+        ≡ byText (record { number = each .number; drawn = blocks * each .drawn }) b
     go true h = rw (← h refl) (ap (λ (q : Answer). byText q true) (query-times (test 1 (allowed n) ∷ []) m d each e))
     go false h = rw (← e)
 
@@ -104,7 +109,8 @@ module _ (d : ℕ → ℕ) (n : ℕ) where
       go false e = omega arith
 
   pub by-count : (two′ four′ eight′ : ℕ) → d 1 ≡ 0 → d 2 ≡ two′ → d 4 ≡ four′ → d 8 ≡ eight′
-      → query (test 1 (allowed n) ∷ []) (d n) ≡ record { number = first (test 1 (allowed n) ∷ []); drawn = byCount n two′ four′ eight′ }
+      → query (test 1 (allowed n) ∷ []) (d n)
+      ≡ record { number = first (test 1 (allowed n) ∷ []); drawn = byCount n two′ four′ eight′ }
   by-count two′ four′ eight′ h₁ h₂ h₄ h₈ = rw (told-count, go (allowed n) refl)
     where
       at : {n : ℕ} → Count n → d n ≡ byCount n two′ four′ eight′

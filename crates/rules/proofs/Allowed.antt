@@ -4,7 +4,7 @@ use mathlib.Core.Path.{_≡_, refl, sym, subst, _∙_}
 use mathlib.Core.Bool.{Bool, true, false}
 use native.Mathlib.Omega.{arith}
 use lib.Dec.{eqb}
-use borrow.Author.Tests.{eqb-true, ne-eqb}
+use borrow.Author.Tests.{eqb-true}
 use Rattle.rules.specs.Numbers.{largest, either, allowed}
 
 pub data Count : ℕ → Type 0 where
@@ -24,11 +24,6 @@ counted n h = go (eqb n 1) (eqb n 2) (eqb n 4) (eqb n 8) refl refl refl refl h
     go false false false true ea eb ec ed q = subst Count (sym (eqb-true n 8 ed)) eight
     go false false false false ea eb ec ed q = let z : _≡_ {A = ℕ} 0 1 = cc in absurd (omega arith)
 
--- what is asked last tells, where the others were not it
-pub allowed-last : (n : ℕ) → (n ≡ 1 → ⊥) → (n ≡ 2 → ⊥) → (n ≡ 4 → ⊥) → eqb n largest ≡ allowed n
-unfolding allowed
-allowed-last n a b c = rw (ne-eqb n 1 a, ne-eqb n 2 b, ne-eqb n 4 c)
-
 pub within : (n : ℕ) → allowed n ≡ true → (0 < n) × (n ≤ largest)
 within n h = go (counted n h)
   where
@@ -47,14 +42,3 @@ power-of n h = go (counted n h)
     go two = (1, refl)
     go four = (2, refl)
     go eight = (3, refl)
-
--- a number told for each count is the rule's at that count
-pub by-count : (d : ℕ → ℕ) (n r two′ four′ eight′ : ℕ) → d 1 ≡ 0 → d 2 ≡ two′ → d 4 ≡ four′ → d 8 ≡ eight′
-    → (n ≡ 1 → r ≡ 0) × (n ≡ 2 → r ≡ two′) × (n ≡ 4 → r ≡ four′) × (n ≡ 8 → r ≡ eight′) → allowed n ≡ true → d n ≡ r
-by-count d n r two′ four′ eight′ a b c e told h = go (counted n h) told
-  where
-    go : {n : ℕ} → Count n → (n ≡ 1 → r ≡ 0) × (n ≡ 2 → r ≡ two′) × (n ≡ 4 → r ≡ four′) × (n ≡ 8 → r ≡ eight′) → d n ≡ r
-    go one t = a ∙ sym (t .0 refl)
-    go two t = b ∙ sym (t .1 refl)
-    go four t = c ∙ sym (t .2 refl)
-    go eight t = e ∙ sym (t .3 refl)

@@ -1,30 +1,17 @@
--- What the definitions of the calls come to: refused, with what that leaves, or done. And that a promise has one outcome.
-use Prim.Native.Nat.{ℕ, zero, suc, _*_, _-_, _≤_, _<_}
+-- What the definitions of the calls come to, whichever tests a call has: refused, with what that leaves, or done. And
+-- that a promise has one outcome. What each kind of call tests stands in Tested.
+use Prim.Native.Nat.{ℕ, zero, suc}
 use mathlib.Core.Path.{_≡_, refl, sym, ap, _∙_}
 use mathlib.Core.Bool.{Bool, true, false}
 use mathlib.Core.List.{List, [], _∷_, _++_}
-use native.Mathlib.Nat.{zero-add}
 use native.Mathlib.Omega.{arith}
-use lib.Dec.{eqb, leb}
+use lib.Dec.{leb}
 use lib.ListN.{length}
-use borrow.Author.Tests.{eqb-true, eq-eqb, ne-eqb, leb-true}
+use borrow.Author.Tests.{eq-eqb, ne-eqb}
 use Rattle.rules.specs.declared.Answer.{Answer}
-use Rattle.rules.specs.declared.Chain.{Chain}
-use Rattle.rules.specs.declared.Compressed.{Compressed}
-use Rattle.rules.specs.Supply.{Draw, Rule, Words, split}
-use Rattle.rules.specs.Numbers.{both, allowed, Test, test, first, settled, told}
-use Rattle.rules.specs.Shares.{refresh, expand, and, add}
-use Rattle.rules.specs.Convert.{toBool, toArith}
-use Rattle.rules.specs.Counts.{refreshDraws, andDraws, addDraws, toBoolDraws, toArithDraws, compressDraws, hmacDraws}
-use Rattle.rules.specs.Sha1.{compress, used, chainOf}
-use Rattle.rules.specs.Hmac.{splitKey, hmacTag}
-use Rattle.rules.specs.Calls.{recordCall, call, oneTests, twoTests, openCall, query, compressCall}
-use Rattle.rules.proofs.Openings.{opened-lt}
-use Rattle.rules.proofs.Pairs.{refresh-rule, and-rule}
-use Rattle.rules.proofs.Addition.{add-loop-rule, expand-rule, split-rule}
-use Rattle.rules.proofs.Conversion.{add-adds, refresh-refreshes, toBool-rule, toArith-rule}
-use Rattle.rules.proofs.Sizes.{splitKey-sized}
-use Rattle.rules.proofs.Allowed.{within, power-of}
+use Rattle.rules.specs.Supply.{Draw}
+use Rattle.rules.specs.Numbers.{Test, test, first, settled}
+use Rattle.rules.specs.Calls.{recordCall, call, query}
 
 -- No two differing outcomes satisfy one promise: each promise is an equation to a definition.
 pub one-outcome : {O : Type 0} (promised a b : O) → promised ≡ a → promised ≡ b → a ≡ b
@@ -35,7 +22,8 @@ pub not-recorded : (size : ℕ) (steps came : List ℕ) → (length came ≡ siz
 unfolding first test
 not-recorded size steps came h = rw (ne-eqb (length came) size h)
 
-pub recorded : (size : ℕ) (steps came entries : List ℕ) → length came ≡ size → entries ≡ steps → recordCall size steps came ≡ (0, entries)
+pub recorded : (size : ℕ) (steps came entries : List ℕ) → length came ≡ size → entries ≡ steps
+    → recordCall size steps came ≡ (0, entries)
 unfolding first test
 recorded size steps came entries h e = rw (eq-eqb (length came) size h, e)
 
@@ -51,6 +39,11 @@ passed [] h = tt
 passed (zero ∷ ts) h = (refl, passed ts h)
 passed (suc t ∷ ts) h = absurd (omega arith)
 
+pub holds : (number : ℕ) (b : Bool) → test (suc number) b ≡ 0 → b ≡ true
+unfolding test
+holds number true h = refl
+holds number false h = absurd (omega arith)
+
 -- what a test compares matters only where the tests before it were passed
 pub same-test : (ts us : List Test) (number need drawn have : ℕ) → (first ts ≡ 0 → drawn ≡ need)
     → first (ts ++ (test number (leb need have) ∷ us)) ≡ first (ts ++ (test number (leb drawn have) ∷ us))
@@ -64,18 +57,23 @@ pub settled-refused : {A : Type 0} (number : ℕ) (done came : A) → (number �
 settled-refused zero done came h = absurd (h refl)
 settled-refused (suc number) done came h = refl
 
--- ---- calls on n shares: the outcome, from the number, what the rule draws and what it made
+-- what a query tells that refuses nothing
+pub tells : (tests : List Test) (drawn : ℕ) (q : Answer) → query tests drawn ≡ q → first tests ≡ 0 → drawn ≡ q .drawn
+tells tests drawn q e h = rw h at (ap (λ (a : Answer). a .drawn) e)
+
+-- ---- a call's outcome, from its number, what its rule draws and what the rule made
 module _ (tests : List Test) (rule : Draw (List ℕ)) (came ws : List ℕ) (number need : ℕ) (answer : Answer)
-    (draws : first tests ≡ 0 → rule ws 0 .1 ≡ need)
-    (is : number ≡ first (tests ++ (test 5 (leb need (length ws)) ∷ []))) where
-  own : number ≡ first (tests ++ (test 5 (leb (rule ws 0 .1) (length ws)) ∷ []))
-  own = is ∙ same-test tests [] 5 need (rule ws 0 .1) (length ws) draws
+    (is : first (tests ++ (test 5 (leb need (length ws)) ∷ [])) ≡ number)
+    (draws : first tests ≡ 0 → rule ws 0 .1 ≡ need) where
+  -- the number by what the rule draws
+  own : first (tests ++ (test 5 (leb (rule ws 0 .1) (length ws)) ∷ [])) ≡ number
+  own = sym (same-test tests [] 5 need (rule ws 0 .1) (length ws) draws) ∙ is
 
   pub refused : (number ≡ 0 → ⊥) → answer ≡ record { number = number; drawn = 0 } → call tests rule came ws ≡ (answer, came)
   unfolding call
-  refused h e = rw (← own, settled-refused number (rule ws 0 .1) 0 h, settled-refused number (rule ws 0 .0) came h, e)
+  refused h e = rw (own, settled-refused number (rule ws 0 .1) 0 h, settled-refused number (rule ws 0 .0) came h, e)
 
   pub done : number ≡ 0 → (after : List ℕ) (drawn : ℕ) → rule ws 0 ≡ (after, drawn) → answer ≡ record { number = 0; drawn = drawn }
       → call tests rule came ws ≡ (answer, after)
   unfolding call
-  done h after drawn e f = rw (← own, h, e, f)
+  done h after drawn e f = rw (own, h, e, f)

@@ -20,3 +20,4 @@ pub mod Opens
 pub mod Tags
 pub mod Outcomes
 pub mod AtCalls
+pub mod Tested

@@ -1,7 +1,8 @@
 -- refused, with what that leaves; or the rule
 use borrow.Author.Needs.{needs}
 use Rattle.rules.specs.Counts.{addDraws, toBoolDraws}
-use Rattle.flamivorse.proofs.Laws.{refused, done, one-ready, toBool-needs}
+use Rattle.rules.proofs.Calls.{refused, done}
+use Rattle.rules.proofs.Tested.{one-ready, toBool-needs}
 use Rattle.flamivorse.proofs.flamivorse_a2b.Statement.{statement}
 use Rattle.flamivorse.proofs.flamivorse_a2b.Tie as tie
 
@@ -10,7 +11,8 @@ returns c = search (refused, toBool-needs)
 
 to-bool-requires : tie.Need-to-bool-requires
 to-bool-requires c κs =
-    let p = one-ready (toBoolDraws (addDraws 32)) (c .before .before .before .a2b-words .ensures) (λ n. n) (c .before .before .one-input .ensures) (c .before .if1 .left) in
+    let told = c .before .before .before .a2b-words .ensures in
+    let p = one-ready (toBoolDraws (addDraws 32)) (λ n. n) told (c .before .before .one-input .ensures) (c .before .if1 .left) in
     search needs
 
 returns-2 : tie.Need-returns-2
@@ -18,4 +20,6 @@ returns-2 c = search (done, toBool-needs)
 
 pub flamivorse-a2b-spec : {M : Type 1} → statement M
 flamivorse-a2b-spec =
-    tie.close (tie.spec (λ c κs. search needs) (λ c κs. search needs) (λ c κs. search needs) returns to-bool-requires (λ c κs. search needs) (λ c. search needs) returns-2)
+    tie.close
+    (tie.spec (λ c κs. search needs) (λ c κs. search needs) (λ c κs. search needs) returns to-bool-requires
+    (λ c κs. search needs) (λ c. search needs) returns-2)

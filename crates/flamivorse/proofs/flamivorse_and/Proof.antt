@@ -1,7 +1,8 @@
 -- refused, with what that leaves; or the rule
 use borrow.Author.Needs.{needs}
 use Rattle.rules.specs.Counts.{andDraws}
-use Rattle.flamivorse.proofs.Laws.{refused, done, two-ready, and-needs}
+use Rattle.rules.proofs.Calls.{refused, done}
+use Rattle.rules.proofs.Tested.{two-ready, and-needs}
 use Rattle.flamivorse.proofs.flamivorse_and.Statement.{statement}
 use Rattle.flamivorse.proofs.flamivorse_and.Tie as tie
 
@@ -9,11 +10,16 @@ returns : tie.Need-returns
 returns c = search (refused, and-needs)
 
 and-at-requires : tie.Need-and-at-requires
-and-at-requires c κs = let p = two-ready andDraws (c .before .before .before .and-words .ensures) (c .before .before .two-inputs .ensures) (c .before .if1 .left) in search needs
+and-at-requires c κs =
+    let told = c .before .before .before .and-words .ensures in
+    let p = two-ready andDraws told (c .before .before .two-inputs .ensures) (c .before .if1 .left) in
+    search needs
 
 returns-2 : tie.Need-returns-2
 returns-2 c = search (done, and-needs)
 
 pub flamivorse-and-spec : {M : Type 1} → statement M
 flamivorse-and-spec =
-    tie.close (tie.spec (λ c κs. search needs) (λ c κs. search needs) (λ c κs. search needs) returns and-at-requires (λ c κs. search needs) (λ c. search needs) returns-2)
+    tie.close
+    (tie.spec (λ c κs. search needs) (λ c κs. search needs) (λ c κs. search needs) returns and-at-requires
+    (λ c κs. search needs) (λ c. search needs) returns-2)

@@ -1,7 +1,8 @@
 -- refused, with what that leaves; or the rule
 use borrow.Author.Needs.{needs}
 use Rattle.rules.specs.Counts.{refreshDraws, addDraws, toArithDraws}
-use Rattle.flamivorse.proofs.Laws.{refused, done, one-ready, toArith-needs}
+use Rattle.rules.proofs.Calls.{refused, done}
+use Rattle.rules.proofs.Tested.{one-ready, toArith-needs}
 use Rattle.flamivorse.proofs.flamivorse_b2a.Statement.{statement}
 use Rattle.flamivorse.proofs.flamivorse_b2a.Tie as tie
 
@@ -10,7 +11,9 @@ returns c = search (refused, toArith-needs)
 
 to-arith-requires : tie.Need-to-arith-requires
 to-arith-requires c κs =
-    let p = one-ready (toArithDraws (addDraws 32) refreshDraws) (c .before .before .before .b2a-words .ensures) (λ n. n) (c .before .before .one-input .ensures) (c .before .if1 .left) in
+    let told = c .before .before .before .b2a-words .ensures in
+    let d = toArithDraws (addDraws 32) refreshDraws in
+    let p = one-ready d (λ n. n) told (c .before .before .one-input .ensures) (c .before .if1 .left) in
     search needs
 
 returns-2 : tie.Need-returns-2
@@ -18,4 +21,6 @@ returns-2 c = search (done, toArith-needs)
 
 pub flamivorse-b2a-spec : {M : Type 1} → statement M
 flamivorse-b2a-spec =
-    tie.close (tie.spec (λ c κs. search needs) (λ c κs. search needs) (λ c κs. search needs) returns to-arith-requires (λ c κs. search needs) (λ c. search needs) returns-2)
+    tie.close
+    (tie.spec (λ c κs. search needs) (λ c κs. search needs) (λ c κs. search needs) returns to-arith-requires
+    (λ c κs. search needs) (λ c. search needs) returns-2)

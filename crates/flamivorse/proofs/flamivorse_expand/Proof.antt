@@ -1,7 +1,8 @@
 -- refused, with what that leaves; or the rule
-use borrow.Author.Needs.{needs}
 use Prim.Native.Nat.{_*_}
-use Rattle.flamivorse.proofs.Laws.{refused, done, one-ready, expand-needs}
+use borrow.Author.Needs.{needs}
+use Rattle.rules.proofs.Calls.{refused, done}
+use Rattle.rules.proofs.Tested.{one-ready, expand-needs}
 use Rattle.flamivorse.proofs.flamivorse_expand.Statement.{statement}
 use Rattle.flamivorse.proofs.flamivorse_expand.Tie as tie
 
@@ -10,7 +11,8 @@ returns c = search (refused, expand-needs)
 
 expand-at-requires : tie.Need-expand-at-requires
 expand-at-requires c κs =
-    let p = one-ready (λ n. n) (c .before .before .before .expand-words .ensures) (λ n. 2 * n) (c .before .before .widening .ensures) (c .before .if1 .left) in
+    let told = c .before .before .before .expand-words .ensures in
+    let p = one-ready (λ n. n) (λ n. 2 * n) told (c .before .before .widening .ensures) (c .before .if1 .left) in
     search needs
 
 returns-2 : tie.Need-returns-2
@@ -18,4 +20,6 @@ returns-2 c = search (done, expand-needs)
 
 pub flamivorse-expand-spec : {M : Type 1} → statement M
 flamivorse-expand-spec =
-    tie.close (tie.spec (λ c κs. search needs) (λ c κs. search needs) (λ c κs. search needs) returns expand-at-requires (λ c κs. search needs) (λ c. search needs) returns-2)
+    tie.close
+    (tie.spec (λ c κs. search needs) (λ c κs. search needs) (λ c κs. search needs) returns expand-at-requires
+    (λ c κs. search needs) (λ c. search needs) returns-2)

@@ -1,7 +1,8 @@
 -- refused, with what that leaves; or the rule
 use borrow.Author.Needs.{needs}
 use Rattle.rules.specs.Counts.{refreshDraws}
-use Rattle.flamivorse.proofs.Laws.{refused, done, one-ready, refresh-needs, refresh-copied}
+use Rattle.rules.proofs.Calls.{refused, done}
+use Rattle.rules.proofs.Tested.{one-ready, refresh-needs, refresh-copied}
 use Rattle.flamivorse.proofs.flamivorse_refresh.Statement.{statement}
 use Rattle.flamivorse.proofs.flamivorse_refresh.Tie as tie
 
@@ -10,17 +11,22 @@ returns c = search (refused, refresh-needs)
 
 copy-requires : tie.Need-copy-requires
 copy-requires c κs =
-    let p = one-ready refreshDraws (c .before .before .before .refresh-words .ensures) (λ n. n) (c .before .before .one-input .ensures) (c .before .if1 .left) in
+    let told = c .before .before .before .refresh-words .ensures in
+    let p = one-ready refreshDraws (λ n. n) told (c .before .before .one-input .ensures) (c .before .if1 .left) in
     search needs
 
 refresh-at-requires : tie.Need-refresh-at-requires
 refresh-at-requires c κs =
     let s = c .before .before .before .before in
-    let p = one-ready refreshDraws (s .before .before .before .refresh-words .ensures) (λ n. n) (s .before .before .one-input .ensures) (s .before .if1 .left) in
+    let told = s .before .before .before .refresh-words .ensures in
+    let p = one-ready refreshDraws (λ n. n) told (s .before .before .one-input .ensures) (s .before .if1 .left) in
     search needs
 
 returns-2 : tie.Need-returns-2
 returns-2 c = search (done, refresh-needs, refresh-copied)
 
 pub flamivorse-refresh-spec : {M : Type 1} → statement M
-flamivorse-refresh-spec = tie.close (tie.spec (λ c κs. search needs) (λ c κs. search needs) (λ c κs. search needs) returns copy-requires refresh-at-requires (λ c κs. search needs) (λ c. search needs) returns-2)
+flamivorse-refresh-spec =
+    tie.close
+    (tie.spec (λ c κs. search needs) (λ c κs. search needs) (λ c κs. search needs) returns copy-requires refresh-at-requires
+    (λ c κs. search needs) (λ c. search needs) returns-2)

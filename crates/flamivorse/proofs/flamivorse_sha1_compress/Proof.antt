@@ -1,6 +1,6 @@
 -- refused, with what that leaves; or the rule
 use borrow.Author.Needs.{needs}
-use Rattle.flamivorse.proofs.Laws.{block-ready, compress-refused, compress-done}
+use Rattle.rules.proofs.Tested.{block-ready, compress-refused, compress-done}
 use Rattle.flamivorse.proofs.flamivorse_sha1_compress.Statement.{statement}
 use Rattle.flamivorse.proofs.flamivorse_sha1_compress.Tie as tie
 

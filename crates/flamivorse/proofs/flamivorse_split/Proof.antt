@@ -1,6 +1,7 @@
 -- refused, with what that leaves; or the rule
 use borrow.Author.Needs.{needs}
-use Rattle.flamivorse.proofs.Laws.{refused, done, split-ready, split-needs, split-sized}
+use Rattle.rules.proofs.Calls.{refused, done}
+use Rattle.rules.proofs.Tested.{split-ready, split-needs, split-sized}
 use Rattle.flamivorse.proofs.flamivorse_split.Statement.{statement}
 use Rattle.flamivorse.proofs.flamivorse_split.Tie as tie
 
@@ -9,7 +10,8 @@ returns c = search (refused, split-needs)
 
 split-at-requires : tie.Need-split-at-requires
 split-at-requires c κs =
-    let p = split-ready (c .before .before .before .refresh-words .ensures) (c .before .before .splitting .ensures) (c .before .if1 .left) in
+    let told = c .before .before .before .refresh-words .ensures in
+    let p = split-ready told (c .before .before .splitting .ensures) (c .before .if1 .left) in
     search needs
 
 returns-2 : tie.Need-returns-2
@@ -17,4 +19,6 @@ returns-2 c = search (done, split-needs, split-sized)
 
 pub flamivorse-split-spec : {M : Type 1} → statement M
 flamivorse-split-spec =
-    tie.close (tie.spec (λ c κs. search needs) (λ c κs. search needs) (λ c κs. search needs) returns split-at-requires (λ c κs. search needs) (λ c. search needs) returns-2)
+    tie.close
+    (tie.spec (λ c κs. search needs) (λ c κs. search needs) (λ c κs. search needs) returns split-at-requires
+    (λ c κs. search needs) (λ c. search needs) returns-2)

@@ -9,7 +9,8 @@ use Rattle.numbers.proofs.a2b_words.Tie as tie
 
 returns : tie.Need-returns
 unfolding andDraws toBoolDrawsIn toBoolDraws
-returns c = by-count (toBoolDraws (addDraws bits)) (c .before .args .n) 34 264 1432 refl refl refl refl ∙ c .by-count .ensures
+returns c =
+    by-count (toBoolDraws (addDraws bits)) (c .before .args .n) 34 264 1432 refl refl refl refl ∙ c .by-count .ensures
 
 pub a2b-words-spec : {M : Type 1} → statement M
 a2b-words-spec = tie.close (tie.spec (λ c κs. search needs) returns)

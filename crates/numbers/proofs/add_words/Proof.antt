@@ -14,12 +14,14 @@ mul-answer : tie.Need-mul-answer
 unfolding andDraws
 mul-answer c =
     let told = told-below andDraws (c .before .before .args .n) 28 (omega arith) (omega arith) (omega arith) (omega arith) in
-    let few : c .before .and-words .result .drawn ≤ 28 = rw (ap (λ (q : Answer). q .drawn) (c .before .and-words .ensures)) at told in
+    let words = c .before .and-words in
+    let few : words .result .drawn ≤ 28 = rw (ap (λ (q : Answer). q .drawn) (words .ensures)) at told in
     omega arith
 
 returns : tie.Need-returns
 returns c =
-    query-times _ bits (andDraws (c .before .before .before .args .n)) _ (c .before .before .and-words .ensures) ∙ sym (c .answer .ensures)
+    query-times _ bits (andDraws (c .before .before .before .args .n)) _ (c .before .before .and-words .ensures)
+    ∙ sym (c .answer .ensures)
 
 pub add-words-spec : {M : Type 1} → statement M
 add-words-spec = tie.close (tie.spec (λ c κs. search needs) mul-answer (λ c κs. search needs) returns)

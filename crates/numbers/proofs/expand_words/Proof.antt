@@ -9,4 +9,6 @@ returns : tie.Need-returns
 returns c = query-count _ _ ∙ rw first-from (cc)
 
 pub expand-words-spec : {M : Type 1} → statement M
-expand-words-spec = tie.close (tie.spec (λ c κs. search needs) (λ c κs. search needs) (λ c κs. search needs) (λ c κs. search needs) returns)
+expand-words-spec =
+    tie.close
+    (tie.spec (λ c κs. search needs) (λ c κs. search needs) (λ c κs. search needs) (λ c κs. search needs) returns)

@@ -23,8 +23,10 @@ at n h = rw (compress-count n) h
 
 mul-answer : tie.Need-mul-answer
 mul-answer c =
-    let told = told-below (compressDraws 32) (c .before .before .before .args .n) most (at 1 (omega arith)) (at 2 (omega arith)) (at 4 (omega arith)) (at 8 (omega arith)) in
-    let each : c .before .before .compress-words .result .drawn ≤ most = rw (ap (λ (q : Answer). q .drawn) (c .before .before .compress-words .ensures)) at told in
+    let words = c .before .before .compress-words in
+    let told = told-below (compressDraws 32) (c .before .before .before .args .n) most (at 1 (omega arith)) (at 2 (omega arith))
+    (at 4 (omega arith)) (at 8 (omega arith)) in
+    let each : words .result .drawn ≤ most = rw (ap (λ (q : Answer). q .drawn) (words .ensures)) at told in
     omega (arith, mul-le-mul (c .before .compressions .ensures .0) each)
 
 returns : tie.Need-returns
@@ -37,4 +39,6 @@ returns c =
     ∙ rw (c .before .answer .ensures) at (c .by-text .ensures)
 
 pub hmac-words-spec : {M : Type 1} → statement M
-hmac-words-spec = tie.close (tie.spec (λ c κs. search needs) (λ c κs. search needs) mul-answer (λ c κs. search needs) (λ c κs. search needs) returns)
+hmac-words-spec =
+    tie.close
+    (tie.spec (λ c κs. search needs) (λ c κs. search needs) mul-answer (λ c κs. search needs) (λ c κs. search needs) returns)

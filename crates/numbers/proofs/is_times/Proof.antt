@@ -21,10 +21,15 @@ returns : tie.Need-returns
 returns c = rw (c .if1 .taken, zero-mul (c .before .args .n))
 
 returns-2 : tie.Need-returns-2
-returns-2 c = let i = c .before .before .args in sym (ne-eqb (i .length) (i .m * i .n) (λ e. c .if2 .taken (rw e (mul-mod-right (i .m) (i .n)))))
+returns-2 c =
+    let i = c .before .before .args in
+    sym (ne-eqb (i .length) (i .m * i .n) (λ e. c .if2 .taken (rw e (mul-mod-right (i .m) (i .n)))))
 
 returns-3 : tie.Need-returns-3
-returns-3 c = let i = c .before .before .args in quotient (i .length) (i .m) (i .n) (eqb (i .length / i .m) (i .n)) (omega (arith, c .before .if1 .left)) (c .if2 .left) refl
+returns-3 c =
+    let i = c .before .before .args in
+    let some : 0 < i .m = omega (arith, c .before .if1 .left) in
+    quotient (i .length) (i .m) (i .n) (eqb (i .length / i .m) (i .n)) some (c .if2 .left) refl
 
 pub is-times-spec : {M : Type 1} → statement M
 is-times-spec = tie.close (tie.spec returns (λ c. search needs) returns-2 (λ c. search needs) returns-3)

@@ -14,7 +14,8 @@ returns : tie.Need-returns
 returns c =
     let a = c .before .before .args in
     let told = by-count (λ n. 16 * (n - 1)) (a .n) 16 48 112 refl refl refl refl ∙ c .before .by-count .ensures in
-    query-text (a .n) (16 * (a .n - 1)) (leb (a .key) longestKey) ∙ ap (λ (q : Answer). byText q (leb (a .key) longestKey)) told ∙ c .by-text .ensures
+    query-text (a .n) (16 * (a .n - 1)) (leb (a .key) longestKey)
+    ∙ ap (λ (q : Answer). byText q (leb (a .key) longestKey)) told ∙ c .by-text .ensures
 
 pub key-words-spec : {M : Type 1} → statement M
 key-words-spec = tie.close (tie.spec (λ c κs. search needs) (λ c κs. search needs) returns)

@@ -1,0 +1,260 @@
+-- What each kind of call tests: once that was passed, what its callee may ask, and that its rule draws what its query
+-- tells. Which tests a call has is said here alone of all proofs.
+use Prim.Native.Nat.{ℕ, _+_, _*_, _-_, _^_, _≤_, _<_}
+use mathlib.Core.Path.{_≡_, refl, sym, _∙_}
+use mathlib.Core.Bool.{Bool, true, false}
+use mathlib.Core.List.{List, [], _∷_, map}
+use native.Mathlib.Nat.{zero-add}
+use native.Mathlib.Omega.{arith}
+use lib.Dec.{eqb, leb}
+use lib.ListN.{length, getD}
+use lib.Seq.{length-take-le}
+use mir.Syntax.{w32}
+use mir.Val.{Fits}
+use borrow.Author.Tests.{eqb-true, leb-true}
+use Rattle.rules.specs.declared.Answer.{Answer}
+use Rattle.rules.specs.declared.Chain.{Chain}
+use Rattle.rules.specs.Supply.{Draw, Rule, split}
+use Rattle.rules.specs.Numbers.{largest, longestKey, longestMessage, both, allowed, Test, test, first}
+use Rattle.rules.specs.Shares.{refresh, expand, and, add}
+use Rattle.rules.specs.Convert.{toBool, toArith}
+use Rattle.rules.specs.Counts.{refreshDraws, andDraws, addDraws, toBoolDraws, toArithDraws, compressDraws, hmacDraws, sha1}
+use Rattle.rules.specs.Standard.{SHA1}
+use Rattle.rules.specs.Sha1.{compress, used, chainOf}
+use Rattle.rules.specs.Hmac.{splitKey, hmacTag}
+use Rattle.rules.specs.Calls.{oneTests, twoTests, openCall, query, compressCall}
+use Rattle.rules.proofs.Openings.{opened-lt}
+use Rattle.rules.proofs.Pairs.{refresh-rule, and-rule}
+use Rattle.rules.proofs.Addition.{add-loop-rule, expand-rule, split-rule}
+use Rattle.rules.proofs.Conversion.{add-adds, refresh-refreshes, toBool-rule, toArith-rule}
+use Rattle.rules.proofs.MaskedHmac.{Keeps}
+use Rattle.rules.proofs.Sizes.{Sized, add-sizes, sha1-sizes, compress-sized, hmacTag-sized, splitKey-sized}
+use Rattle.rules.proofs.Tags.{sha1-proper}
+use Rattle.rules.proofs.Loops.{chain-length}
+use Rattle.rules.proofs.Allowed.{within, power-of}
+use Rattle.rules.proofs.Calls.{passed, holds, same-test, settled-refused, tells}
+
+both-true : (a b : Bool) → both a b ≡ true → (a ≡ true) × (b ≡ true)
+both-true true b h = (refl, h)
+both-true false b h = let z : _≡_ {A = ℕ} 0 1 = cc in absurd (omega arith)
+
+-- a query refuses nothing of a share count that is taken, with a text that fits
+taken : (n : ℕ) → allowed n ≡ true → first (test 1 (allowed n) ∷ []) ≡ 0
+unfolding first test
+taken n h = rw h
+
+taken-text : (n : ℕ) (fits : Bool) → allowed n ≡ true → fits ≡ true → first (test 1 (allowed n) ∷ test 4 fits ∷ []) ≡ 0
+unfolding first test
+taken-text n fits h e = rw (h, e)
+
+-- ---- what the callee of each kind of call may ask: the lengths, the share count and the room
+pub record Ready (n drawn have : ℕ) : Type 0 where
+  pub count : allowed n ≡ true
+  pub some : 0 < n
+  pub few : n ≤ largest
+  pub room : 0 + drawn ≤ have
+
+ready : (n drawn have : ℕ) (q : Answer) (tests : List Test) → query tests drawn ≡ q → first tests ≡ 0 → allowed n ≡ true
+    → test 5 (leb (q .drawn) have) ≡ 0 → Ready n drawn have
+ready n drawn have q tests e h count enough =
+    let enough′ = leb-true _ _ (holds _ _ enough) in
+    record { count = count; some = within n count .0; few = within n count .1; room = rw (zero-add, tells tests drawn q e h) enough′ }
+
+module _ {n have number : ℕ} {q : Answer} where
+  -- by the length x of an input of n shares, where d n words are drawn; m n shares out
+  module _ (d : ℕ → ℕ) {x y : ℕ} where
+    pub one-ready : (m : ℕ → ℕ) → query (test 1 (allowed n) ∷ []) (d n) ≡ q
+        → first (test 1 (allowed n) ∷ test 2 (eqb x n) ∷ test 3 (eqb y (m n)) ∷ test 5 (leb (q .drawn) have) ∷ []) ≡ number
+        → number ≡ 0 → (x ≡ n) × (y ≡ m n) × Ready x (d x) have
+    one-ready m e is z =
+        let p = passed _ (is ∙ z) in
+        let count = holds _ _ (p .0) in
+        let size = eqb-true x n (holds _ _ (p .1 .0)) in
+        (size, eqb-true y (m n) (holds _ _ (p .1 .1 .0)), rw size (ready n (d n) have q _ e (taken n count) count (p .1 .1 .1 .0)))
+
+    pub two-ready : {z : ℕ} → query (test 1 (allowed n) ∷ []) (d n) ≡ q
+        → first (test 1 (allowed n) ∷ test 2 (both (eqb x n) (eqb y n)) ∷ test 3 (eqb z n) ∷ test 5 (leb (q .drawn) have) ∷ []) ≡ number
+        → number ≡ 0 → (x ≡ n) × (y ≡ n) × (z ≡ n) × Ready x (d x) have
+    two-ready {z} e is h =
+        let p = passed _ (is ∙ h) in
+        let count = holds _ _ (p .0) in
+        let sizes = both-true _ _ (holds _ _ (p .1 .0)) in
+        let size = eqb-true x n (sizes .0) in
+        let room = ready n (d n) have q _ e (taken n count) count (p .1 .1 .1 .0) in
+        (size, eqb-true y n (sizes .1), eqb-true z n (holds _ _ (p .1 .1 .0)), rw size room)
+
+  module _ {drawn : ℕ} (e : query (test 1 (allowed n) ∷ []) drawn ≡ q) {x : ℕ} where
+    pub split-ready : first (test 1 (allowed n) ∷ test 3 (eqb x n) ∷ test 5 (leb (q .drawn) have) ∷ []) ≡ number
+        → number ≡ 0 → (x ≡ n) × Ready n drawn have
+    split-ready is z =
+        let p = passed _ (is ∙ z) in
+        let count = holds _ _ (p .0) in
+        (eqb-true x n (holds _ _ (p .1 .0)), ready n drawn have q _ e (taken n count) count (p .1 .1 .0))
+
+    pub block-ready : first (test 1 (allowed n) ∷ test 2 (eqb x (16 * n)) ∷ test 5 (leb (q .drawn) have) ∷ []) ≡ number
+        → number ≡ 0 → (x ≡ 16 * n) × Ready n drawn have
+    block-ready is z =
+        let p = passed _ (is ∙ z) in
+        let count = holds _ _ (p .0) in
+        (eqb-true x (16 * n) (holds _ _ (p .1 .0)), ready n drawn have q _ e (taken n count) count (p .1 .1 .0))
+
+  module _ {drawn : ℕ} {fits : Bool} (e : query (test 1 (allowed n) ∷ test 4 fits ∷ []) drawn ≡ q) {x : ℕ} where
+    pub key-ready : first (test 1 (allowed n) ∷ test 3 (eqb x (16 * n)) ∷ test 4 fits ∷ test 5 (leb (q .drawn) have) ∷ []) ≡ number
+        → number ≡ 0 → (x ≡ 16 * n) × (fits ≡ true) × Ready n drawn have
+    key-ready is z =
+        let p = passed _ (is ∙ z) in
+        let count = holds _ _ (p .0) in
+        let short = holds _ _ (p .1 .1 .0) in
+        (eqb-true x (16 * n) (holds _ _ (p .1 .0)), short, ready n drawn have q _ e (taken-text n _ count short) count (p .1 .1 .1 .0))
+
+    pub tag-ready : {sized : Bool}
+        → first (test 1 (allowed n) ∷ test 2 (eqb x (16 * n)) ∷ test 3 sized ∷ test 4 fits ∷ test 5 (leb (q .drawn) have) ∷ []) ≡ number
+        → number ≡ 0 → (x ≡ 16 * n) × (sized ≡ true) × (fits ≡ true) × Ready n drawn have
+    tag-ready is z =
+        let p = passed _ (is ∙ z) in
+        let count = holds _ _ (p .0) in
+        let short = holds _ _ (p .1 .1 .1 .0) in
+        let room = ready n drawn have q _ e (taken-text n _ count short) count (p .1 .1 .1 .1 .0) in
+        (eqb-true x (16 * n) (holds _ _ (p .1 .0)), holds _ _ (p .1 .1 .0), short, room)
+
+-- a message that is not too long is far from what 64 bits can count
+pub short-text : (l : ℕ) → leb l longestMessage ≡ true → 64 + l < 2 ^ 60
+short-text l h = omega (arith, leb-true l longestMessage h)
+
+-- ---- each rule draws what its query tells, where the tests before the supply were passed
+needs : {S : Type 0} {P : S → Type 0} {rule : Draw S} (d : ℕ) (q : Answer) (tests : List Test) (ws : List ℕ)
+    → query tests d ≡ q → first tests ≡ 0 → Rule d P rule → rule ws 0 .1 ≡ q .drawn
+needs d q tests ws e h r = r .place ws 0 ∙ zero-add d ∙ tells tests d q e h
+
+-- of masked SHA-1 only the sizes are needed here
+sizes : (n : ℕ) → allowed n ≡ true → Keeps (sha1 32) n (λ v. Unit {0}) (Sized n)
+sizes n ok = sha1-sizes 32 n (within n ok .0) 32 (add 32) (add-sizes 32 (omega arith))
+
+module _ (n : ℕ) (came ws : List ℕ) (q : Answer) where
+  pub split-needs : (value : ℕ) → first (test 1 (allowed n) ∷ test 3 (eqb (length came) n) ∷ []) ≡ 0
+      → query (test 1 (allowed n) ∷ []) (n - 1) ≡ q → split n value ws 0 .1 ≡ q .drawn
+  split-needs value h e =
+      let count = holds _ _ (passed _ h .0) in
+      needs (n - 1) q _ ws e (taken n count) (split-rule n value (within n count .0))
+
+  module _ (x : List ℕ) where
+    module _ (h : first (oneTests n n x came) ≡ 0) where
+      pub refresh-needs : query (test 1 (allowed n) ∷ []) (refreshDraws n) ≡ q → refresh x ws 0 .1 ≡ q .drawn
+      refresh-needs e =
+          let p = passed _ h in
+          needs (refreshDraws n) q _ ws e (taken n (holds _ _ (p .0))) (refresh-rule n x (eqb-true (length x) n (holds _ _ (p .1 .0))))
+
+      module _ (w : (i : ℕ) → Fits w32 (getD x i 0)) where
+        pub toBool-needs : query (test 1 (allowed n) ∷ []) (toBoolDraws (addDraws 32) n) ≡ q → toBool (add 32) x ws 0 .1 ≡ q .drawn
+        toBool-needs e =
+            let p = passed _ h in
+            let count = holds _ _ (p .0) in
+            let size = eqb-true (length x) n (holds _ _ (p .1 .0)) in
+            let t = power-of n count in
+            needs (toBoolDraws (addDraws 32) (length x)) q _ ws (rw size e) (taken n count)
+            (toBool-rule 32 (addDraws 32) (add 32) (add-adds 32 (omega arith)) (t .0) x (size ∙ t .1) (λ i. w i .fits))
+
+        pub toArith-needs : query (test 1 (allowed n) ∷ []) (toArithDraws (addDraws 32) refreshDraws n) ≡ q
+            → toArith 32 (add 32) refresh x ws 0 .1 ≡ q .drawn
+        toArith-needs e =
+            let p = passed _ h in
+            let count = holds _ _ (p .0) in
+            let size = eqb-true (length x) n (holds _ _ (p .1 .0)) in
+            let t = power-of n count in
+            let secret = opened-lt 32 x (λ i. w i .fits) in
+            let added = add-adds 32 (omega arith) in
+            needs (toArithDraws (addDraws 32) refreshDraws (length x)) q _ ws (rw size e) (taken n count)
+            (toArith-rule 32 (addDraws 32) (add 32) added refreshDraws refresh refresh-refreshes (t .0) x (size ∙ t .1) secret)
+
+    pub expand-needs : first (oneTests n (2 * n) x came) ≡ 0 → query (test 1 (allowed n) ∷ []) n ≡ q → expand x ws 0 .1 ≡ q .drawn
+    expand-needs h e =
+        let p = passed _ h in
+        needs n q _ ws e (taken n (holds _ _ (p .0))) (expand-rule n x (eqb-true (length x) n (holds _ _ (p .1 .0))))
+
+    module _ (y : List ℕ) (h : first (twoTests n x y came) ≡ 0) where
+      count-two : allowed n ≡ true
+      count-two = holds _ _ (passed _ h .0)
+
+      sizes-two : (length x ≡ n) × (length y ≡ n)
+      sizes-two = let s = both-true _ _ (holds _ _ (passed _ h .1 .0)) in (eqb-true (length x) n (s .0), eqb-true (length y) n (s .1))
+
+      pub and-needs : query (test 1 (allowed n) ∷ []) (andDraws n) ≡ q → and x y ws 0 .1 ≡ q .drawn
+      and-needs e = needs (andDraws n) q _ ws e (taken n count-two) (and-rule n x y (sizes-two .0) (sizes-two .1))
+
+      pub add-needs : (k : ℕ) → 0 < k → query (test 1 (allowed n) ∷ []) (addDraws k n) ≡ q → add k x y ws 0 .1 ≡ q .drawn
+      add-needs k wide e = needs (addDraws k n) q _ ws e (taken n count-two) (add-loop-rule k n x y wide (sizes-two .0) (sizes-two .1))
+
+  pub splitKey-needs : (key : List ℕ)
+      → first (test 1 (allowed n) ∷ test 3 (eqb (length came) (16 * n)) ∷ test 4 (leb (length key) longestKey) ∷ []) ≡ 0
+      → query (test 1 (allowed n) ∷ test 4 (leb (length key) longestKey) ∷ []) (16 * (n - 1)) ≡ q
+      → splitKey (SHA1 32) n key ws 0 .1 ≡ q .drawn
+  splitKey-needs key h e =
+      let p = passed _ h in
+      let count = holds _ _ (p .0) in
+      needs (16 * (n - 1)) q _ ws e (taken-text n _ count (holds _ _ (p .1 .1 .0)))
+      (splitKey-sized (SHA1 32) n key (within n count .0))
+
+  pub hmacTag-needs : (key text : List ℕ)
+      → first
+      (test 1 (allowed n)
+      ∷ test 2 (eqb (length key) (16 * n)) ∷ test 3 (eqb (length came) 20) ∷ test 4 (leb (length text) longestMessage) ∷ []) ≡ 0
+      → query (test 1 (allowed n) ∷ test 4 (leb (length text) longestMessage) ∷ []) (hmacDraws (sha1 32) n (length text)) ≡ q
+      → hmacTag (sha1 32) n key text ws 0 .1 ≡ q .drawn
+  hmacTag-needs key text h e =
+      let p = passed _ h in
+      let count = holds _ _ (p .0) in
+      let size = eqb-true (length key) (16 * n) (holds _ _ (p .1 .0)) in
+      needs (hmacDraws (sha1 32) n (length text)) q _ ws e (taken-text n _ count (holds _ _ (p .1 .1 .1 .0)))
+      (hmacTag-sized (sha1 32) n (within n count .0) (sizes n count) sha1-proper key text size)
+
+-- refresh works on a copy, and splitting by the length of its output
+pub refresh-copied : (x y ws : List ℕ) (r : List ℕ × ℕ) → y ≡ x → refresh y ws 0 ≡ r → refresh x ws 0 ≡ r
+refresh-copied x y ws r e f = rw (← e) f
+
+pub split-sized : (n value need have number : ℕ) (came ws : List ℕ) (r : List ℕ × ℕ)
+    → first (test 1 (allowed n) ∷ test 3 (eqb (length came) n) ∷ test 5 (leb need have) ∷ []) ≡ number → number ≡ 0
+    → split (length came) value ws 0 ≡ r → split n value ws 0 ≡ r
+split-sized n value need have number came ws r is z e = rw (eqb-true (length came) n (holds _ _ (passed _ (is ∙ z) .1 .0))) at e
+
+-- ---- a compression: refused, with the chain as it was given, or done
+module _ (n number : ℕ) (chain : Chain) (block ws : List ℕ) (q : Answer)
+    (is : first (test 1 (allowed n) ∷ test 2 (eqb (length block) (16 * n)) ∷ test 5 (leb (q .drawn) (length ws)) ∷ []) ≡ number)
+    (e : query (test 1 (allowed n) ∷ []) (compressDraws 32 n) ≡ q)
+    (good : length (map (λ (v : ℕ). v) (chain .shares)) ≡ 40) where
+  abbrev made : List ℕ × ℕ
+  made = compress 32 (add 32) n (used n (chain .shares)) block ws 0
+
+  full : n ≤ largest → length (used n (chain .shares)) ≡ 5 * n
+  unfolding used
+  full few = length-take-le (5 * n) (chain .shares) (omega (arith, chain-length (chain .shares) good))
+
+  abbrev before : List Test
+  before = test 1 (allowed n) ∷ test 2 (eqb (length block) (16 * n)) ∷ []
+
+  draws : first before ≡ 0 → made .1 ≡ q .drawn
+  draws h =
+      let p = passed _ h in
+      let count = holds _ _ (p .0) in
+      let size = eqb-true (length block) (16 * n) (holds _ _ (p .1 .0)) in
+      needs (compressDraws 32 n) q _ ws e (taken n count)
+      (compress-sized (sha1 32) n (within n count .0) (sizes n count) (used n (chain .shares)) block (full (within n count .1)) size)
+
+  own : first (test 1 (allowed n) ∷ test 2 (eqb (length block) (16 * n)) ∷ test 5 (leb (made .1) (length ws)) ∷ []) ≡ number
+  own = sym (same-test before [] 5 (q .drawn) (made .1) (length ws) draws) ∙ is
+
+  pub compress-refused : (number ≡ 0 → ⊥) → compressCall 32 n chain block ws ≡ record { number = number; drawn = 0; chain = chain }
+  compress-refused h =
+      rw (own, settled-refused number (made .1) 0 h, settled-refused number (record { shares = chainOf n (made .0) }) chain h)
+
+  pub compress-done : number ≡ 0 → (next : Chain) (drawn : ℕ) → made ≡ (used n (next .shares), drawn)
+      → next .shares ≡ chainOf n (used n (next .shares))
+      → compressCall 32 n chain block ws ≡ record { number = 0; drawn = drawn; chain = next }
+  compress-done z next drawn f g = rw (own, z, f, ← g)
+
+-- ---- an opening
+module _ (n number word : ℕ) (x : List ℕ) (is : first (test 1 (allowed n) ∷ test 2 (eqb (length x) n) ∷ []) ≡ number) where
+  pub not-opened : (number ≡ 0 → ⊥) → openCall n x word ≡ record { number = number; word = 0 }
+  not-opened h = rw (is, settled-refused number word 0 h)
+
+  pub was-opened : (opened : ℕ) → number ≡ 0 → opened ≡ word → openCall n x word ≡ record { number = 0; word = opened }
+  was-opened opened h e = rw (is, h, e)
