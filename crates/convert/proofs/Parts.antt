@@ -1,5 +1,6 @@
--- The conversions, from the parts that the code works out one after the other, and what holds of a share count above one.
-use Prim.Native.Nat.{ℕ, _+_, _-_, _*_, _/_, _≤_, _<_}
+-- The conversions, from the parts that the code works out one after the other, and what holds of a share count
+-- above one.
+use Prim.Native.Nat.{ℕ, _+_, _-_, _/_, _≤_, _<_}
 use mathlib.Core.Path.{_≡_, refl, sym, ap, _∙_}
 use mathlib.Core.Bool.{true}
 use mathlib.Core.List.{List, _++_}
@@ -33,9 +34,12 @@ halved-count n h l = go (counted n h) l
   where
     go : {n : ℕ} → Count n → 1 < n → Halves n
     go one l = absurd (omega arith)
-    go two l = record { half = refl; even = refl; more = l; room = omega arith; draws = draws-more (addDraws bits) 2 l }
-    go four l = record { half = refl; even = refl; more = l; room = omega arith; draws = draws-more (addDraws bits) 4 l }
-    go eight l = record { half = refl; even = refl; more = l; room = omega arith; draws = draws-more (addDraws bits) 8 l }
+    go two l =
+        record { half = refl; even = refl; more = l; room = omega arith; draws = draws-more (addDraws bits) 2 l }
+    go four l =
+        record { half = refl; even = refl; more = l; room = omega arith; draws = draws-more (addDraws bits) 4 l }
+    go eight l =
+        record { half = refl; even = refl; more = l; room = omega arith; draws = draws-more (addDraws bits) 8 l }
 
 -- ---- arithmetic to Boolean
 module _ (adder : Adder) (ws : List ℕ) (at : ℕ) where
@@ -50,7 +54,8 @@ module _ (adder : Adder) (ws : List ℕ) (at : ℕ) where
 
   -- more go by halves; a part of a slice is `take (e - h) (drop h a)`
   pub toBool-made : (a x y z : List ℕ) (n p q e : ℕ) → 1 < n → length a ≡ n
-      → widened adder (take (n / 2 - 0) a) ws at ≡ (x, p) → widened adder (take (n - n / 2) (drop (n / 2) a)) ws p ≡ (y, q)
+      → widened adder (take (n / 2 - 0) a) ws at ≡ (x, p)
+      → widened adder (take (n - n / 2) (drop (n / 2) a)) ws p ≡ (y, q)
       → adder x y ws q ≡ (z, e) → toBool adder a ws at ≡ (z, e)
   unfolding widened halved widen
   toBool-made a x y z n p q e h l f g k =

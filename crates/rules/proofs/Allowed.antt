@@ -17,7 +17,8 @@ pub counted : (n : ℕ) → allowed n ≡ true → Count n
 unfolding allowed
 counted n h = go (eqb n 1) (eqb n 2) (eqb n 4) (eqb n 8) refl refl refl refl h
   where
-    go : (a b c d : Bool) → eqb n 1 ≡ a → eqb n 2 ≡ b → eqb n 4 ≡ c → eqb n 8 ≡ d → either a (either b (either c d)) ≡ true → Count n
+    go : (a b c d : Bool) → eqb n 1 ≡ a → eqb n 2 ≡ b → eqb n 4 ≡ c → eqb n 8 ≡ d
+        → either a (either b (either c d)) ≡ true → Count n
     go true b c d ea eb ec ed q = subst Count (sym (eqb-true n 1 ea)) one
     go false true c d ea eb ec ed q = subst Count (sym (eqb-true n 2 eb)) two
     go false false true d ea eb ec ed q = subst Count (sym (eqb-true n 4 ec)) four
@@ -53,7 +54,8 @@ pub by-count : (d : ℕ → ℕ) (n r two′ four′ eight′ : ℕ) → d 1 ≡
     → (n ≡ 1 → r ≡ 0) × (n ≡ 2 → r ≡ two′) × (n ≡ 4 → r ≡ four′) × (n ≡ 8 → r ≡ eight′) → allowed n ≡ true → d n ≡ r
 by-count d n r two′ four′ eight′ a b c e told h = go (counted n h) told
   where
-    go : {n : ℕ} → Count n → (n ≡ 1 → r ≡ 0) × (n ≡ 2 → r ≡ two′) × (n ≡ 4 → r ≡ four′) × (n ≡ 8 → r ≡ eight′) → d n ≡ r
+    go : {n : ℕ} → Count n → (n ≡ 1 → r ≡ 0) × (n ≡ 2 → r ≡ two′) × (n ≡ 4 → r ≡ four′) × (n ≡ 8 → r ≡ eight′)
+        → d n ≡ r
     go one t = a ∙ sym (t .0 refl)
     go two t = b ∙ sym (t .1 refl)
     go four t = c ∙ sym (t .2 refl)

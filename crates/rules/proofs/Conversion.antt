@@ -25,7 +25,8 @@ use Rattle.rules.proofs.Addition.{add-rule, expand-rule}
 -- ---- what is asked of an addition that draws d n words, and of a refresh that draws e n
 abbrev pub Adds : ℕ → (ℕ → ℕ) → Adder → Type 0
 Adds k d adder =
-    (n : ℕ) (x y : List ℕ) → length x ≡ n → length y ≡ n → opened x < 2 ^ k → opened y < 2 ^ k → Rule (d n) (Shares n (plus k (opened x) (opened y))) (adder x y)
+    (n : ℕ) (x y : List ℕ) → length x ≡ n → length y ≡ n → opened x < 2 ^ k → opened y < 2 ^ k
+    → Rule (d n) (Shares n (plus k (opened x) (opened y))) (adder x y)
 
 abbrev pub Refreshes : (ℕ → ℕ) → Refresh → Type 0
 Refreshes e fresh = (n : ℕ) (x : List ℕ) → length x ≡ n → Rule (e n) (Shares n (opened x)) (fresh x)
@@ -70,7 +71,8 @@ words-drop k n a h i = rw (getD-drop n a i 0) (h (n + i))
 
 -- ---- the depth allowed does not matter, so long as it is enough
 halved-same : (f g : List ℕ → Draw (List ℕ)) (adder : Adder) (a ws : List ℕ) (at : ℕ) → 1 < length a
-    → ((b : List ℕ) (s : ℕ) → length b < length a → f b ws s ≡ g b ws s) → halved f adder a ws at ≡ halved g adder a ws at
+    → ((b : List ℕ) (s : ℕ) → length b < length a → f b ws s ≡ g b ws s)
+    → halved f adder a ws at ≡ halved g adder a ws at
 unfolding halved
 halved-same f g adder a ws at l e =
     let left = g (take (length a / 2) a) ws at in
@@ -79,17 +81,22 @@ halved-same f g adder a ws at l e =
       e (drop (length a / 2) a) (widen (length a) (left .0) ws (left .1) .1) (omega (arith, length-right a)),
     )
 
-toBoolIn-enough : (adder : Adder) (deep more : ℕ) (a ws : List ℕ) (at : ℕ) → length a ≤ deep → length a ≤ more → toBoolIn adder deep a ws at ≡ toBoolIn adder more a ws at
+toBoolIn-enough : (adder : Adder) (deep more : ℕ) (a ws : List ℕ) (at : ℕ) → length a ≤ deep → length a ≤ more
+    → toBoolIn adder deep a ws at ≡ toBoolIn adder more a ws at
 unfolding toBoolIn
 toBoolIn-enough adder zero zero a ws at h l = refl
 toBoolIn-enough adder zero (suc more) a ws at h l = rw (le-leb (length a) 1 (omega arith))
 toBoolIn-enough adder (suc deep) zero a ws at h l = rw (le-leb (length a) 1 (omega arith))
-toBoolIn-enough adder (suc deep) (suc more) a ws at h l = go (leb (length a) 1) refl (λ b s u. toBoolIn-enough adder deep more b ws s (omega arith) (omega arith))
+toBoolIn-enough adder (suc deep) (suc more) a ws at h l =
+    go (leb (length a) 1) refl (λ b s u. toBoolIn-enough adder deep more b ws s (omega arith) (omega arith))
   where
-    go : (t : Bool) → leb (length a) 1 ≡ t → ((b : List ℕ) (s : ℕ) → length b < length a → toBoolIn adder deep b ws s ≡ toBoolIn adder more b ws s)
-        → choose t (a, at) (halved (toBoolIn adder deep) adder a ws at) ≡ choose t (a, at) (halved (toBoolIn adder more) adder a ws at)
+    go : (t : Bool) → leb (length a) 1 ≡ t
+        → ((b : List ℕ) (s : ℕ) → length b < length a → toBoolIn adder deep b ws s ≡ toBoolIn adder more b ws s)
+        → choose t (a, at) (halved (toBoolIn adder deep) adder a ws at)
+        ≡ choose t (a, at) (halved (toBoolIn adder more) adder a ws at)
     go true e same = refl
-    go false e same = halved-same (toBoolIn adder deep) (toBoolIn adder more) adder a ws at (leb-false (length a) 1 e) same
+    go false e same =
+        halved-same (toBoolIn adder deep) (toBoolIn adder more) adder a ws at (leb-false (length a) 1 e) same
 
 -- one share stays
 pub toBool-one : (adder : Adder) (a ws : List ℕ) (at : ℕ) → length a ≤ 1 → toBool adder a ws at ≡ (a, at)
@@ -98,22 +105,27 @@ toBool-one adder [] ws at h = refl
 toBool-one adder (x ∷ a) ws at h = rw (le-leb (length (x ∷ a)) 1 h)
 
 -- more go by halves
-pub toBool-more : (adder : Adder) (a ws : List ℕ) (at : ℕ) → 1 < length a → toBool adder a ws at ≡ halved (toBool adder) adder a ws at
+pub toBool-more : (adder : Adder) (a ws : List ℕ) (at : ℕ) → 1 < length a
+    → toBool adder a ws at ≡ halved (toBool adder) adder a ws at
 unfolding toBool toBoolIn
 toBool-more adder [] ws at h = absurd (omega arith)
 toBool-more adder (x ∷ a) ws at h =
     rw (lt-leb (length (x ∷ a)) 1 h)
-    (halved-same (toBoolIn adder (length a)) (toBool adder) adder (x ∷ a) ws at h (λ b s l. toBoolIn-enough adder (length a) (length b) b ws s (omega arith) (omega arith)))
+    (halved-same (toBoolIn adder (length a)) (toBool adder) adder (x ∷ a) ws at h
+    (λ b s l. toBoolIn-enough adder (length a) (length b) b ws s (omega arith) (omega arith)))
 
-toBoolDrawsIn-enough : (d : ℕ → ℕ) (deep more n : ℕ) → n ≤ deep → n ≤ more → toBoolDrawsIn d deep n ≡ toBoolDrawsIn d more n
+toBoolDrawsIn-enough : (d : ℕ → ℕ) (deep more n : ℕ) → n ≤ deep → n ≤ more
+    → toBoolDrawsIn d deep n ≡ toBoolDrawsIn d more n
 unfolding toBoolDrawsIn
 toBoolDrawsIn-enough d zero zero n h l = refl
 toBoolDrawsIn-enough d zero (suc more) n h l = rw (le-leb n 1 (omega arith))
 toBoolDrawsIn-enough d (suc deep) zero n h l = rw (le-leb n 1 (omega arith))
-toBoolDrawsIn-enough d (suc deep) (suc more) n h l = go (leb n 1) refl (λ u. toBoolDrawsIn-enough d deep more (n / 2) (omega arith) (omega arith))
+toBoolDrawsIn-enough d (suc deep) (suc more) n h l =
+    go (leb n 1) refl (λ u. toBoolDrawsIn-enough d deep more (n / 2) (omega arith) (omega arith))
   where
     go : (t : Bool) → leb n 1 ≡ t → (1 < n → toBoolDrawsIn d deep (n / 2) ≡ toBoolDrawsIn d more (n / 2))
-        → choose t 0 (2 * toBoolDrawsIn d deep (n / 2) + n + d n) ≡ choose t 0 (2 * toBoolDrawsIn d more (n / 2) + n + d n)
+        → choose t 0 (2 * toBoolDrawsIn d deep (n / 2) + n + d n)
+        ≡ choose t 0 (2 * toBoolDrawsIn d more (n / 2) + n + d n)
     go true e same = refl
     go false e same = rw (same (leb-false n 1 e))
 
@@ -125,7 +137,8 @@ draws-one d (suc n) h = rw (le-leb (suc n) 1 h)
 pub draws-more : (d : ℕ → ℕ) (n : ℕ) → 1 < n → toBoolDraws d n ≡ 2 * toBoolDraws d (n / 2) + n + d n
 unfolding toBoolDraws toBoolDrawsIn
 draws-more d zero h = absurd (omega arith)
-draws-more d (suc n) h = rw (lt-leb (suc n) 1 h, toBoolDrawsIn-enough d n (suc n / 2) (suc n / 2) (omega arith) (omega arith))
+draws-more d (suc n) h =
+    rw (lt-leb (suc n) 1 h, toBoolDrawsIn-enough d n (suc n / 2) (suc n / 2) (omega arith) (omega arith))
 
 -- ---- −A1, …, −A(n−1), 0
 abbrev pub negatives : ℕ → List ℕ → List ℕ
@@ -142,15 +155,19 @@ words-negatives k (a ∷ A) (suc i) = words-negatives k A i
 
 module _ (k : ℕ) (d : ℕ → ℕ) (adder : Adder) (adds : Adds k d adder) where
   -- ---- arithmetic to Boolean, of 2^p shares
-  toBool-one-rule : (a : List ℕ) → length a ≡ 1 → Words k a → Rule (toBoolDraws d (length a)) (Shares (length a) (openedSum k a)) (toBool adder a)
+  toBool-one-rule : (a : List ℕ) → length a ≡ 1 → Words k a
+      → Rule (toBoolDraws d (length a)) (Shares (length a) (openedSum k a)) (toBool adder a)
   unfolding opened total
   toBool-one-rule [] h w = absurd (omega arith)
   toBool-one-rule (x ∷ y ∷ a) h w = absurd (omega arith)
   toBool-one-rule (x ∷ []) h w =
       alike (λ ws at. toBool-one adder (x ∷ []) ws at (omega arith))
-      (counted (give (Shares 1 ((x + 0) % 2 ^ k)) (x ∷ []) (refl, xor-zero-r x ∙ sym (ap (λ n. n % 2 ^ k) (add-zero x) ∙ mod-eq-of-lt (w 0)))) (sym (draws-one d 1 (omega arith))))
+      (counted (give (Shares 1 ((x + 0) % 2 ^ k)) (x ∷ [])
+      (refl, xor-zero-r x ∙ sym (ap (λ n. n % 2 ^ k) (add-zero x) ∙ mod-eq-of-lt (w 0))))
+      (sym (draws-one d 1 (omega arith))))
 
-  pub toBool-rule : (p : ℕ) (a : List ℕ) → length a ≡ 2 ^ p → Words k a → Rule (toBoolDraws d (length a)) (Shares (length a) (openedSum k a)) (toBool adder a)
+  pub toBool-rule : (p : ℕ) (a : List ℕ) → length a ≡ 2 ^ p → Words k a
+      → Rule (toBoolDraws d (length a)) (Shares (length a) (openedSum k a)) (toBool adder a)
   unfolding halved widen
   toBool-rule zero a h w = toBool-one-rule a h w
   toBool-rule (suc p) a h w =
@@ -169,18 +186,26 @@ module _ (k : ℕ) (d : ℕ → ℕ) (adder : Adder) (adds : Adds k d adder) whe
       bind (expand-rule (n / 2) r (ir .0 ∙ lo)) (λ y iy.
       let ox : opened x ≡ openedSum k u = ix .1 ∙ il .1 in
       let oy : opened y ≡ openedSum k o = iy .1 ∙ ir .1 in
-      said (adds n x y (ix .0 ∙ omega arith) (iy .0 ∙ omega arith) (rw ox (mod-lt (total u) (pow-pos k))) (rw oy (mod-lt (total o) (pow-pos k)))) refl
-      (λ z g. (g .0, g .1 ∙ rw (ox, oy) (plus-mod k (total u) (total o) ∙ ap (λ t. t % 2 ^ k) (total-halves (n / 2) a)))))))))
+      let lx : opened x < 2 ^ k = rw ox (mod-lt (total u) (pow-pos k)) in
+      let ly : opened y < 2 ^ k = rw oy (mod-lt (total o) (pow-pos k)) in
+      let whole = plus-mod k (total u) (total o) ∙ ap (λ t. t % 2 ^ k) (total-halves (n / 2) a) in
+      said (adds n x y (ix .0 ∙ omega arith) (iy .0 ∙ omega arith) lx ly) refl
+      (λ z g. (g .0, g .1 ∙ rw (ox, oy) whole)))))))
       (rw (lu, lo) (sym (draws-more d n (omega arith) ∙ omega arith))))
 
   -- ---- Boolean to arithmetic
-  module _ (e : ℕ → ℕ) (fresh : Refresh) (freshens : Refreshes e fresh) (p : ℕ) (x : List ℕ) (size : length x ≡ 2 ^ p) (hx : opened x < 2 ^ k) where
-    negatives-rule : (A : List ℕ) → length A ≡ length x - 1 → Rule (toBoolDraws d (length x)) (Shares (length x) (openedSum k (negatives k A))) (toBool adder (negatives k A))
+  module _ (e : ℕ → ℕ) (fresh : Refresh) (freshens : Refreshes e fresh) (p : ℕ) (x : List ℕ)
+      (size : length x ≡ 2 ^ p) (hx : opened x < 2 ^ k) where
+    negatives-rule : (A : List ℕ) → length A ≡ length x - 1
+        → Rule (toBoolDraws d (length x)) (Shares (length x) (openedSum k (negatives k A)))
+        (toBool adder (negatives k A))
     negatives-rule A h =
         let l : length (negatives k A) ≡ length x = length-negatives k A ∙ omega (arith, pow-pos p) in
-        said (toBool-rule p (negatives k A) (l ∙ size) (words-negatives k A)) (ap (toBoolDraws d) l) (λ z g. (g .0 ∙ l, g .1))
+        said (toBool-rule p (negatives k A) (l ∙ size) (words-negatives k A)) (ap (toBoolDraws d) l)
+        (λ z g. (g .0 ∙ l, g .1))
 
-    add-x : (A b : List ℕ) → Shares (length x) (openedSum k (negatives k A)) b → Rule (d (length x)) (Shares (length x) (plus k (opened x) (openedSum k (negatives k A)))) (adder x b)
+    add-x : (A b : List ℕ) → Shares (length x) (openedSum k (negatives k A)) b
+        → Rule (d (length x)) (Shares (length x) (plus k (opened x) (openedSum k (negatives k A)))) (adder x b)
     add-x A b g =
         said (adds (length x) x b refl (g .0) hx (rw (g .1) (mod-lt (total (negatives k A)) (pow-pos k)))) refl
         (λ z h. (h .0, h .1 ∙ ap (plus k (opened x)) (g .1)))
@@ -193,7 +218,8 @@ module _ (k : ℕ) (d : ℕ → ℕ) (adder : Adder) (adds : Adds k d adder) whe
         bind (negatives-rule A h) (λ b ib.
         bind (add-x A b ib) (λ s is.
         bind (freshens (length x) s (is .0)) (λ y iy.
-        give (λ z. length z ≡ length x) (A ++ (opened y ∷ [])) (length-append A (opened y ∷ []) ∙ omega (arith, pow-pos p)))))))
+        give (λ z. length z ≡ length x) (A ++ (opened y ∷ []))
+        (length-append A (opened y ∷ []) ∙ omega (arith, pow-pos p)))))))
         (omega arith)
 
     -- a list and its negatives come to nothing
@@ -204,7 +230,8 @@ module _ (k : ℕ) (d : ℕ → ℕ) (adder : Adder) (adds : Adds k d adder) whe
         let s = minus k 0 a in
         let t = total (negatives k A) in
         let order : a + total A + (s + t) ≡ s + a + (total A + t) = omega arith in
-        ap (λ n. n % 2 ^ k) order ∙ add-mod (s + a) (total A + t) (2 ^ k) ∙ rw (plus-minus k 0 a (pow-pos k) (w 0), away A (λ i. w (suc i))) (zero-mod (2 ^ k))
+        ap (λ n. n % 2 ^ k) order ∙ add-mod (s + a) (total A + t) (2 ^ k)
+        ∙ rw (plus-minus k 0 a (pow-pos k) (w 0), away A (λ i. w (suc i))) (zero-mod (2 ^ k))
 
     -- the sum of A and x − A
     back : (m s a t : ℕ) → s < m → (a + t) % m ≡ 0 → (a + ((s + t % m) % m + 0)) % m ≡ s
@@ -215,7 +242,8 @@ module _ (k : ℕ) (d : ℕ → ℕ) (adder : Adder) (adds : Adds k d adder) whe
         ∙ ap (λ n. n % m) (sym (add-assoc a s (t % m))) ∙ add-mod-mod (a + s) t m
         ∙ ap (λ n. n % m) order ∙ sym (add-mod-mod s (a + t) m) ∙ rw (z, none) (mod-eq-of-lt h)
 
-    pub toArith-opens : (ws : List ℕ) (at : ℕ) → Words k ws → openedSum k (toArith k adder fresh x ws at .0) ≡ opened x
+    pub toArith-opens : (ws : List ℕ) (at : ℕ) → Words k ws
+        → openedSum k (toArith k adder fresh x ws at .0) ≡ opened x
     unfolding toArith total plus
     toArith-opens ws at hw =
         let n = length x in
@@ -227,7 +255,8 @@ module _ (k : ℕ) (d : ℕ → ℕ) (adder : Adder) (adds : Adds k d adder) whe
         let is = add-x (A .0) (b .0) ib .makes ws (b .1) in
         let iy = freshens n (s .0) (is .0) .makes ws (s .1) in
         ap (λ m. m % 2 ^ k) (total-append (A .0) (opened (fresh (s .0) ws (s .1) .0) ∷ []))
-        ∙ rw (iy .1, is .1) (back (2 ^ k) (opened x) (total (A .0)) (total (negatives k (A .0))) hx (away (A .0) (words-next k ws hw (n - 1) at)))
+        ∙ rw (iy .1, is .1) (back (2 ^ k) (opened x) (total (A .0)) (total (negatives k (A .0))) hx
+        (away (A .0) (words-next k ws hw (n - 1) at)))
 
     words-toArith : (ws : List ℕ) (at : ℕ) → Words k ws → Words k (toArith k adder fresh x ws at .0)
     unfolding toArith
@@ -236,18 +265,24 @@ module _ (k : ℕ) (d : ℕ → ℕ) (adder : Adder) (adds : Adds k d adder) whe
         let A = next (n - 1) ws at in
         let b = toBool adder (negatives k (A .0)) ws (A .1) in
         let s = adder x (b .0) ws (b .1) in
-        let is = add-x (A .0) (b .0) (negatives-rule (A .0) (next-rule (n - 1) .makes ws at) .makes ws (A .1)) .makes ws (b .1) in
+        let ib = negatives-rule (A .0) (next-rule (n - 1) .makes ws at) .makes ws (A .1) in
+        let is = add-x (A .0) (b .0) ib .makes ws (b .1) in
         let iy = freshens n (s .0) (is .0) .makes ws (s .1) in
-        words-last k (A .0) (opened (fresh (s .0) ws (s .1) .0)) (words-next k ws hw (n - 1) at) (rw (iy .1, is .1) (plus-lt k (opened x) (openedSum k (negatives k (A .0)))))
+        words-last k (A .0) (opened (fresh (s .0) ws (s .1) .0)) (words-next k ws hw (n - 1) at)
+        (rw (iy .1, is .1) (plus-lt k (opened x) (openedSum k (negatives k (A .0)))))
 
     -- there and back, from Boolean shares
-    pub there-and-back : (ws vs : List ℕ) (at from : ℕ) → Words k ws → opened (toBool adder (toArith k adder fresh x ws at .0) vs from .0) ≡ opened x
+    pub there-and-back : (ws vs : List ℕ) (at from : ℕ) → Words k ws
+        → opened (toBool adder (toArith k adder fresh x ws at .0) vs from .0) ≡ opened x
     there-and-back ws vs at from hw =
-        toBool-rule p (toArith k adder fresh x ws at .0) (toArith-rule .makes ws at ∙ size) (words-toArith ws at hw) .makes vs from .1 ∙ toArith-opens ws at hw
+        toBool-rule p (toArith k adder fresh x ws at .0) (toArith-rule .makes ws at ∙ size)
+        (words-toArith ws at hw) .makes vs from .1 ∙ toArith-opens ws at hw
 
   -- and from arithmetic shares
-  pub back-and-there : (e : ℕ → ℕ) (fresh : Refresh) → Refreshes e fresh → (p : ℕ) (a ws vs : List ℕ) (at from : ℕ) → length a ≡ 2 ^ p → Words k a → Words k vs
+  pub back-and-there : (e : ℕ → ℕ) (fresh : Refresh) → Refreshes e fresh → (p : ℕ) (a ws vs : List ℕ) (at from : ℕ)
+      → length a ≡ 2 ^ p → Words k a → Words k vs
       → openedSum k (toArith k adder fresh (toBool adder a ws at .0) vs from .0) ≡ openedSum k a
   back-and-there e fresh freshens p a ws vs at from size ha hv =
       let g = toBool-rule p a size ha .makes ws at in
-      toArith-opens e fresh freshens p (toBool adder a ws at .0) (g .0 ∙ size) (rw (g .1) (mod-lt (total a) (pow-pos k))) vs from hv ∙ g .1
+      toArith-opens e fresh freshens p (toBool adder a ws at .0) (g .0 ∙ size)
+      (rw (g .1) (mod-lt (total a) (pow-pos k))) vs from hv ∙ g .1

@@ -5,11 +5,13 @@ use Prim.Native.Nat.{ℕ, suc, _+_, _-_, _≤_, _<_}
 use native.Mathlib.Nat.{sub-zero}
 use native.Mathlib.Numerals.{add-one}
 use native.Mathlib.Omega.{arith}
-use lib.ListN.{length, getD, take, drop, set, replicate, length-append, length-replicate, replicate-append-replicate, drop-of-length-le}
+use lib.ListN.{length, getD, take, drop, set, replicate, length-append, length-replicate}
+use lib.ListN.{replicate-append-replicate, drop-of-length-le}
 use lib.Seq.{sets, sets-eq, set-at, drop-cons, take-at, take-all, take-suc, take-suc-set, length-take-le}
 
 -- one store more, of what is still to be stored
-pub sets-next : (l s e : List ℕ) (at i : ℕ) → i < length s → sets l (at + i) (drop i s) ≡ e → sets (set l (at + i) (getD s i 0)) (at + (i + 1)) (drop (i + 1) s) ≡ e
+pub sets-next : (l s e : List ℕ) (at i : ℕ) → i < length s → sets l (at + i) (drop i s) ≡ e
+    → sets (set l (at + i) (getD s i 0)) (at + (i + 1)) (drop (i + 1) s) ≡ e
 sets-next l s e at i h p =
     let q : at + (i + 1) ≡ suc (at + i) = omega arith in
     rw (q, add-one i) (rw (drop-cons s i 0 h) at p)
@@ -22,10 +24,12 @@ sets-end l s e at i h p = rw (drop-of-length-le s h) at p
 pub take-sets : (l s : List ℕ) (i : ℕ) → i + length s ≤ length l → take (i + length s) (sets l i s) ≡ take i l ++ s
 take-sets l s i h =
     ap (take (i + length s)) (sets-eq s l i h)
-    ∙ take-at (take i l ++ s) (drop (i + length s) l) (i + length s) (length-append (take i l) s ∙ ap (λ n. n + length s) (length-take-le i l (omega arith)))
+    ∙ take-at (take i l ++ s) (drop (i + length s) l) (i + length s)
+    (length-append (take i l) s ∙ ap (λ n. n + length s) (length-take-le i l (omega arith)))
 
 -- ---- a list z that becomes l, entry by entry from the front
-pub filled-next : (z l : List ℕ) (i a : ℕ) → i < length z → length z ≡ length l → a ≡ getD l i 0 → take i z ≡ take i l → take (i + 1) (set z i a) ≡ take (i + 1) l
+pub filled-next : (z l : List ℕ) (i a : ℕ) → i < length z → length z ≡ length l → a ≡ getD l i 0
+    → take i z ≡ take i l → take (i + 1) (set z i a) ≡ take (i + 1) l
 filled-next z l i a h e f p =
     let g : i < length l = omega arith in
     rw (add-one i, take-suc-set z i a h, take-suc l i 0 g) (ap₂ (λ (s : List ℕ) (b : ℕ). s ++ (b ∷ [])) p f)
@@ -45,7 +49,8 @@ module _ (m n : ℕ) (room : n ≤ m) where
   pub lent-zeros : take {A = ℕ} (n - 0) (replicate m 0) ≡ replicate n 0
   lent-zeros =
       rw (sub-zero n)
-      (ap (λ k. take n (replicate k 0)) whole ∙ ap (take n) (sym (replicate-append-replicate n (m - n) 0)) ∙ take-at (replicate n 0) (replicate (m - n) 0) n (length-replicate n 0))
+      (ap (λ k. take n (replicate k 0)) whole ∙ ap (take n) (sym (replicate-append-replicate n (m - n) 0))
+      ∙ take-at (replicate n 0) (replicate (m - n) 0) n (length-replicate n 0))
     where
       whole : m ≡ n + (m - n)
       whole = omega arith

@@ -1,7 +1,6 @@
 -- Three functions that call each other: each time round the count falls to its half.
 -- The measures also say the order of the calls: shares to bool, halves to bool, half to bool.
 use Prim.Native.Nat.{ℕ, _+_, _-_, _*_, _/_, _<_}
-use native.Mathlib.Omega.{arith}
 use borrow.Author.Needs.{needs}
 use borrow.Fn.Kinds.{In}
 use borrow.Fn.PlainCycle.{Measures, is, falls, and}
