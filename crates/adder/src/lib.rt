@@ -1,7 +1,6 @@
 // AND and addition of shares. n is the length of the slices.
 // Each function is proved to be its rule, word for word of the supply.
 ghost use mathlib.Core.Path.{_≡_};
-ghost use mathlib.Core.List.{[]};
 ghost use Prim.Native.Nat.{_+_, _-_, _*_, _≤_, _<_};
 ghost use lib.Bits.{bitXor, bitAnd};
 ghost use lib.ListN.{length};

@@ -1,4 +1,4 @@
--- The conversions, from the parts that the code works out one after the other, and what holds of a share count above one.
+-- The conversions, from the parts that the code works out one after the other.
 use Prim.Native.Nat.{ℕ, _+_, _-_, _*_, _/_, _≤_, _<_}
 use mathlib.Core.Path.{_≡_, refl, sym, ap, _∙_}
 use mathlib.Core.Bool.{true}
@@ -14,28 +14,25 @@ use Rattle.rules.specs.Numbers.{largest, allowed}
 use Rattle.rules.specs.Shares.{expand}
 use Rattle.rules.specs.Convert.{Adder, Refresh, widen, halved, toBool, toArith}
 use Rattle.rules.specs.Counts.{addDraws, toBoolDraws}
-use Rattle.rules.proofs.Allowed.{Count, one, two, four, eight, counted, within}
+use Rattle.rules.proofs.Allowed.{Count, one, two, four, eight, counted, some}
 use Rattle.rules.proofs.Conversion.{negatives, toBool-one, toBool-more, draws-one, draws-more}
 use Rattle.rules.proofs.Rule.{next-rule}
 use Rattle.rules.proofs.Loops.{Run}
 use Rattle.convert.specs.Steps.{Halves, widened, less}
 
--- ---- share counts
-pub few : (n : ℕ) → allowed n ≡ true → n ≤ largest
-few n h = within n h .1
-
-pub some : (n : ℕ) → allowed n ≡ true → 0 < n
-some n h = within n h .0
-
+-- ---- a share count above one has its half
 pub halved-count : (n : ℕ) → allowed n ≡ true → 1 < n → Halves n
 unfolding allowed
 halved-count n h l = go (counted n h) l
   where
+    made : (n : ℕ) → 1 < n → allowed (n / 2) ≡ true → n ≡ n / 2 * 2 → n ≤ largest → Halves n
+    made n l h e r = record { half = h; even = e; more = l; room = r; draws = draws-more (addDraws bits) n l }
+
     go : {n : ℕ} → Count n → 1 < n → Halves n
     go one l = absurd (omega arith)
-    go two l = record { half = refl; even = refl; more = l; room = omega arith; draws = draws-more (addDraws bits) 2 l }
-    go four l = record { half = refl; even = refl; more = l; room = omega arith; draws = draws-more (addDraws bits) 4 l }
-    go eight l = record { half = refl; even = refl; more = l; room = omega arith; draws = draws-more (addDraws bits) 8 l }
+    go two l = made 2 l refl refl (omega arith)
+    go four l = made 4 l refl refl (omega arith)
+    go eight l = made 8 l refl refl (omega arith)
 
 -- ---- arithmetic to Boolean
 module _ (adder : Adder) (ws : List ℕ) (at : ℕ) where
@@ -50,7 +47,8 @@ module _ (adder : Adder) (ws : List ℕ) (at : ℕ) where
 
   -- more go by halves; a part of a slice is `take (e - h) (drop h a)`
   pub toBool-made : (a x y z : List ℕ) (n p q e : ℕ) → 1 < n → length a ≡ n
-      → widened adder (take (n / 2 - 0) a) ws at ≡ (x, p) → widened adder (take (n - n / 2) (drop (n / 2) a)) ws p ≡ (y, q)
+      → widened adder (take (n / 2 - 0) a) ws at ≡ (x, p)
+      → widened adder (take (n - n / 2) (drop (n / 2) a)) ws p ≡ (y, q)
       → adder x y ws q ≡ (z, e) → toBool adder a ws at ≡ (z, e)
   unfolding widened halved widen
   toBool-made a x y z n p q e h l f g k =

@@ -33,6 +33,13 @@ within n h = go (counted n h)
     go four = omega arith
     go eight = omega arith
 
+-- each half by itself: listed, omega uses it of every count that it meets
+pub some : (n : ℕ) → allowed n ≡ true → 0 < n
+some n h = within n h .0
+
+pub few : (n : ℕ) → allowed n ≡ true → n ≤ largest
+few n h = within n h .1
+
 -- a count is a power of two
 pub power-of : (n : ℕ) → allowed n ≡ true → (p : ℕ) × (n ≡ 2 ^ p)
 power-of n h = go (counted n h)

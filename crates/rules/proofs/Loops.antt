@@ -1,4 +1,5 @@
--- The rules as the code's loops walk them: what is left, run from here, gives what the whole gives. One law to a turn and one to the end.
+-- The rules as the code's loops walk them: what is left, run from here, gives what the whole gives. One law to a
+-- turn and one to the end.
 use Prim.Native.Nat.{ℕ, zero, suc, _+_, _-_, _*_, _≤_, _<_}
 use mathlib.Core.Path.{_≡_, refl, sym, ap, _∙_}
 use mathlib.Core.List.{List, [], _∷_, _++_, map, append-assoc, append-nil}
@@ -30,7 +31,8 @@ pass-append step (p ∷ ps) qs z ws at = pass-append step ps qs (step (p .0) (p 
 -- ---- one draw for each pair: s is the word drawn, q the place after it, y what the step makes of z
 module _ (step : Step) (ws z y : List ℕ) (at q s : ℕ) (e : Run) where
   pub column-next : (last i : ℕ) → i < last → s ≡ getD ws at 0 → q ≡ at + 1 → y ≡ step i last s z
-      → pass step (column last (last - i) i) z ws at ≡ e → pass step (column last (last - (i + 1)) (i + 1)) y ws q ≡ e
+      → pass step (column last (last - i) i) z ws at ≡ e
+      → pass step (column last (last - (i + 1)) (i + 1)) y ws q ≡ e
   unfolding pass column
   column-next last i h f g j p =
       let more : last - i ≡ suc (last - (i + 1)) = omega arith in
@@ -83,7 +85,8 @@ module _ (n i p all : ℕ) where
   pub rows-room : (l : ℕ) → i < n → p + andDraws (n - i) ≡ all → all ≤ l → p + (n - (i + 1)) ≤ l
   rows-room l h e f = omega (arith, rows-next h)
 
-  pub rows-place : (q : ℕ) → i < n → q ≡ p + (n - (i + 1)) → p + andDraws (n - i) ≡ all → q + andDraws (n - (i + 1)) ≡ all
+  pub rows-place : (q : ℕ) → i < n → q ≡ p + (n - (i + 1)) → p + andDraws (n - i) ≡ all
+      → q + andDraws (n - (i + 1)) ≡ all
   rows-place q h e f = omega (arith, rows-next h)
 
   pub rows-end : n ≤ i → p + andDraws (n - i) ≡ all → p ≡ all
@@ -127,7 +130,8 @@ module _ (x ws y : List ℕ) (i at : ℕ) (e : Run) where
       let pair = bitXor (getD x i 0) s ∷ s ∷ [] in
       let two : (i + 1) * 2 ≡ i * 2 + 2 = omega arith in
       let rest = expand (drop (suc i) x) ws (at + 1) in
-      rw (g, two, add-one i, add-one (i * 2), take-sets y pair (i * 2) (omega arith), append-assoc (take (i * 2) y) pair (rest .0), f)
+      let stored = take-sets y pair (i * 2) (omega arith) in
+      rw (g, two, add-one i, add-one (i * 2), stored, append-assoc (take (i * 2) y) pair (rest .0), f)
       (rw (drop-cons x i 0 h) at p)
 
   pub expand-end : length x ≤ i → length y ≡ length x * 2
@@ -149,16 +153,21 @@ module _ (k : ℕ) (a w u ws : List ℕ) (at : ℕ) where
   unfolding carries
   carries-end m i e h p = let none : m - i ≡ 0 = omega arith in sym (rw none at p)
 
-  pub carries-one : (t v : List ℕ) (p : ℕ) → and u a ws at ≡ (t, p) → v ≡ each (doubleXor k) t w → carries k a w 1 u ws at ≡ (v, p)
+  pub carries-one : (t v : List ℕ) (p : ℕ) → and u a ws at ≡ (t, p) → v ≡ each (doubleXor k) t w
+      → carries k a w 1 u ws at ≡ (v, p)
   unfolding carries
   carries-one t v p e f = ap (λ (r : Run). (each (doubleXor k) (r .0) w, r .1)) e ∙ ap (λ l. (l, p)) (sym f)
 
--- ---- by shares, filled from the front
+-- ---- by shares: up to place i, z has the rule's shares
+abbrev pub EachTo : (ℕ → ℕ → ℕ) → List ℕ → List ℕ → List ℕ → ℕ → Type 0
+EachTo f x y z i = (i ≤ length x) × (length z ≡ length x) × (take i z ≡ take i (each f x y))
+
 module _ (f : ℕ → ℕ → ℕ) (x y z : List ℕ) (i : ℕ) (same : length y ≡ length x) (room : length z ≡ length x) where
   pub each-next : i < length x → take i z ≡ take i (each f x y)
       → take (i + 1) (set z i (f (getD x i 0) (getD y i 0))) ≡ take (i + 1) (each f x y)
   each-next h p =
-      filled-next z (each f x y) i _ (omega arith) (room ∙ sym (length-each f x y same)) (sym (each-at f x y same i h)) p
+      filled-next z (each f x y) i _ (omega arith) (room ∙ sym (length-each f x y same))
+      (sym (each-at f x y same i h)) p
 
   pub each-end : length x ≤ i → take i z ≡ take i (each f x y) → z ≡ each f x y
   each-end h p =
@@ -203,7 +212,8 @@ module _ (k : ℕ) (a m : List ℕ) (i : ℕ) (room : length m ≡ length a + 1)
 
   pub negatives-next : (s : ℕ) → i < length a → s ≡ minus k 0 (getD a i 0) → take i m ≡ take i (negatives k a)
       → take (i + 1) (set m i s) ≡ take (i + 1) (negatives k a)
-  negatives-next s h e p = filled-next m (negatives k a) i s (omega arith) same-size (e ∙ sym (negatives-at k a i h)) p
+  negatives-next s h e p =
+      filled-next m (negatives k a) i s (omega arith) same-size (e ∙ sym (negatives-at k a i h)) p
 
   pub negatives-end : i ≤ length a → length a ≤ i → take i m ≡ take i (negatives k a) → set m i 0 ≡ negatives k a
   negatives-end l h p =

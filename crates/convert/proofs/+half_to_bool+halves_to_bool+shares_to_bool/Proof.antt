@@ -1,7 +1,6 @@
--- Three functions that call each other: each time round the count falls to its half.
--- The measures also say the order of the calls: shares to bool, halves to bool, half to bool.
+-- Three functions that call each other, n being the count: shares_to_bool calls halves_to_bool at n, that calls
+-- half_to_bool at n, and that calls shares_to_bool at n / 2. So the measures are 3n, 3n − 1 and 3(n / 2) + 1.
 use Prim.Native.Nat.{ℕ, _+_, _-_, _*_, _/_, _<_}
-use native.Mathlib.Omega.{arith}
 use borrow.Author.Needs.{needs}
 use borrow.Fn.Kinds.{In}
 use borrow.Fn.PlainCycle.{Measures, is, falls, and}
@@ -52,6 +51,7 @@ shares-below t = and 3 shares-kinds.ps (falls 3 shares-kinds.ps _<_ μ-shares t)
 pub +half-to-bool+halves-to-bool+shares-to-bool-spec : {M : Type 1} → statement M
 +half-to-bool+halves-to-bool+shares-to-bool-spec =
     close μ-half μ-halves μ-shares
+    -- half_to_bool
     (λ t. half-lts.spec (shares-below t, shares.Post, expand-at.Asked, expand-at.Learnt) (half-at t) half.Post
     (λ c. search needs)
     (λ c. search needs)
@@ -60,6 +60,7 @@ pub +half-to-bool+halves-to-bool+shares-to-bool-spec : {M : Type 1} → statemen
     (λ c κs. search needs)
     (λ c. search needs)
     (λ c. (search widened-made, search needs)))
+    -- halves_to_bool
     (λ t. halves-lts.spec (half-below t, half.Post, add-halves.Asked, add-halves.Learnt) (halves-at t) halves.Post
     (λ c. search needs)
     (λ c. search needs)
@@ -79,6 +80,7 @@ pub +half-to-bool+halves-to-bool+shares-to-bool-spec : {M : Type 1} → statemen
     (λ c κs. search needs)
     (λ c. search needs)
     (λ c. (search toBool-made, search needs)))
+    -- shares_to_bool
     (λ t. shares-lts.spec (copy.Asked, copy.Learnt, halves-below t, halves.Post) (shares-at t) shares.Post
     (λ c κs. search needs)
     (λ c. search needs)

@@ -1,7 +1,8 @@
 -- the negatives, then their conversion
 use borrow.Author.Needs.{needs}
 use native.Mathlib.Omega.{arith}
-use Rattle.convert.proofs.Parts.{few, negative-made}
+use Rattle.rules.proofs.Allowed.{few}
+use Rattle.convert.proofs.Parts.{negative-made}
 use Rattle.convert.proofs.negative_to_bool.Statement.{statement}
 use Rattle.convert.proofs.negative_to_bool.Tie as tie
 

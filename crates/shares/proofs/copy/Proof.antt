@@ -20,7 +20,8 @@ loop-holds c = (search needs, c .before .before .pre, refl)
 loop-again : tie.Need-loop-again Inv-loop μ-loop
 loop-again c =
     let l = c .before .before .before .loop in
-    (search needs, search needs, rw (c .after .ensures) (filled-next (l .y) _ (l .i) _ (omega arith) (l .inv .1) refl (l .inv .2)))
+    let filled = filled-next (l .y) _ (l .i) _ (omega arith) (l .inv .1) refl (l .inv .2) in
+    (search needs, search needs, rw (c .after .ensures) filled)
 
 returns : tie.Need-returns Inv-loop μ-loop
 returns c = let l = c .before .loop in filled-end _ _ (l .i) (c .loop-test .left) (l .inv .1) (l .inv .2)

@@ -23,8 +23,9 @@ loop-again : tie.Need-loop-again Inv-loop μ-loop
 loop-again c =
     let l = c .before .before .loop in
     let x = c .before .before .before .args .x .now in
-    let q : l .i - 1 + 1 ≡ l .i = omega arith in
-    (search needs, sym (opened-drop x (l .i - 1) (omega arith) ∙ ap (bitXor (getD x (l .i - 1) 0)) (rw q (sym (l .inv .1)))))
+    let i = l .i - 1 in
+    let q : i + 1 ≡ l .i = omega arith in
+    (search needs, sym (opened-drop x i (omega arith) ∙ ap (bitXor (getD x i 0)) (rw q (sym (l .inv .1)))))
 
 returns : tie.Need-returns Inv-loop μ-loop
 returns c = let l = c .before .loop in let none : l .i ≡ 0 = omega arith in rw none at (l .inv .1)

@@ -1,23 +1,21 @@
 -- up to place i the shares are those of the rule
 use borrow.Author.Needs.{needs}
-use native.Mathlib.Omega.{arith}
-use Prim.Native.Nat.{_-_, _≤_}
-use mathlib.Core.Path.{_≡_, refl}
-use lib.ListN.{length, take}
+use Prim.Native.Nat.{_-_}
+use mathlib.Core.Path.{refl}
+use lib.ListN.{length}
 use lib.Bits.{bitXor}
-use Rattle.rules.specs.Shares.{each}
-use Rattle.rules.proofs.Loops.{each-next, each-end}
+use Rattle.rules.proofs.Loops.{EachTo, each-next, each-end}
 use Rattle.shares.proofs.xor_each.Statement.{statement}
 use Rattle.shares.proofs.xor_each.Tie as tie
 
 abbrev Inv-loop : tie.InvT-loop
-Inv-loop x y z₀ i₀ z i = (i ≤ length x) × (length z ≡ length x) × (take i z ≡ take i (each bitXor x y))
+Inv-loop x y z₀ i₀ z i = EachTo bitXor x y z i
 
 abbrev μ-loop : tie.MeasureT-loop
 μ-loop x y z₀ i₀ z i = length x - i
 
 loop-holds : tie.Need-loop-holds Inv-loop μ-loop
-loop-holds c = (search needs, c .pre .1, refl)
+loop-holds c = (search needs, search needs, refl)
 
 loop-again : tie.Need-loop-again Inv-loop μ-loop
 loop-again c = (search needs, search needs, search (each-next bitXor))
