@@ -40,9 +40,10 @@ module _ (n w : ℕ) (z z′ : List ℕ) where
       let next : (w + 1) * n ≡ w * n + length x = omega arith in
       rw (next, g) (take-sets z x (w * n) (omega arith))
 
-  pub move-word-made : (i : ℕ) (s x : List ℕ) → x ≡ word n i s → firsts n (w + 1) z′ ≡ firsts n w z ++ x
-      → firsts n (w + 1) z′ ≡ firsts n w z ++ word n i s
-  move-word-made i s x e g = rw (← e) g
+  -- what it is comes from how it was made
+  pub put-word-of : (x y : List ℕ) → x ≡ y → firsts n (w + 1) z′ ≡ firsts n w z ++ x
+      → firsts n (w + 1) z′ ≡ firsts n w z ++ y
+  put-word-of x y e g = rw (← e) g
 
 -- no word
 pub firsts-none : (n : ℕ) (z : List ℕ) → firsts n 0 z ≡ []
@@ -94,9 +95,9 @@ add-room x ws k n at e h = rw e h
 pub copied : {r : Run} {z y : List ℕ} {p : ℕ} → r ≡ (z, p) → y ≡ z → r ≡ (y, p)
 copied e g = rw (e, g)
 
-pub sum-after : (k n : ℕ) (x y z ws : List ℕ) (at p : ℕ) → 0 < k → length x ≡ n → length y ≡ n
+pub add-after : (k n : ℕ) (x y z ws : List ℕ) (at p : ℕ) → 0 < k → length x ≡ n → length y ≡ n
     → add k x y ws at ≡ (z, p) → p ≡ at + k * andDraws n
-sum-after k n x y z ws at p hk hx hy e = rw (← hx) (add-place k x y ws z at p hk (hy ∙ sym hx) e)
+add-after k n x y z ws at p hk hx hy e = rw (← hx) (add-place k x y ws z at p hk (hy ∙ sym hx) e)
 
 -- ---- parity
 pub parity-made : (b c d x f : List ℕ) → x ≡ each bitXor b c → f ≡ each bitXor x d → f ≡ each bitXor (each bitXor b c) d

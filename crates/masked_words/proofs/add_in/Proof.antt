@@ -1,6 +1,6 @@
 -- the sum goes back into x by a copy
 use borrow.Author.Needs.{needs}
-use Rattle.masked_words.proofs.Parts.{add-room, copied, sum-after}
+use Rattle.masked_words.proofs.Parts.{add-room, copied, add-after}
 use Rattle.masked_words.proofs.add_in.Statement.{statement}
 use Rattle.masked_words.proofs.add_in.Tie as tie
 
@@ -8,7 +8,7 @@ add-at-requires : tie.Need-add-at-requires
 add-at-requires c κs = (search needs, search needs, search needs, search add-room)
 
 returns : tie.Need-returns
-returns c = (search copied, search (sum-after, needs))
+returns c = (search copied, search (add-after, needs))
 
 pub add-in-spec : {M : Type 1} → statement M
 add-in-spec =
