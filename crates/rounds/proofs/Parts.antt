@@ -13,6 +13,24 @@ use Rattle.masked_words.specs.Words.{firsts}
 use Rattle.rules.proofs.Loops.{Run}
 use Rattle.masked_words.proofs.Parts.{firsts-none, firsts-all}
 
+-- ---- sum_in, sum_of, temp_at: the sum of a round, in the rule's order
+module _ (ws : List ℕ) (at : ℕ) where
+  pub summed-made : (add : Adder) (t f e c w x y z : List ℕ) (p q s : ℕ) (o : Run)
+      → add t f ws at ≡ (x, p) → add x e ws p ≡ (y, q) → add y c ws q ≡ (z, s) → add z w ws s ≡ o
+      → summed add t f e c w ws at ≡ o
+  unfolding summed
+  summed-made add t f e c w x y z p q s o g h i j = rw (g, h, i, j)
+
+  pub summed-of : (add : Adder) (n q : ℕ) (t f s w e c : List ℕ) (o : Run) → e ≡ word n 4 s → c ≡ public n (K q)
+      → summed add t f e c w ws at ≡ o → summed add t f (word n 4 s) (public n (K q)) w ws at ≡ o
+  summed-of add n q t f s w e c o g h i = rw (← g, ← h) i
+
+  pub temp-made : (k : ℕ) (add : Adder) (n q : ℕ) (w s f a t : List ℕ) (p : ℕ) (o : Run)
+      → chosen q (word n 1 s) (word n 2 s) (word n 3 s) ws at ≡ (f, p) → a ≡ word n 0 s → t ≡ rotated k 5 a
+      → summed add t f (word n 4 s) (public n (K q)) w ws p ≡ o → temp k add n q w s ws at ≡ o
+  unfolding temp
+  temp-made k add n q w s f a t p o g x h l = rw (g, ← x, ← h) l
+
 -- ---- arrange: five words, each stored after those before it
 pub arranged : (n : ℕ) (t b s z z₁ z₂ z₃ z₄ z₅ : List ℕ)
     → firsts n 1 z₁ ≡ firsts n 0 z ++ t
@@ -33,27 +51,11 @@ module _ (k n : ℕ) (t s z : List ℕ) where
   pub moved-all : length z ≡ 5 * n → firsts n 5 z ≡ moved k n t s → z ≡ moved k n t s
   moved-all e g = sym (firsts-all n 5 z e) ∙ g
 
-module _ (ws : List ℕ) (at : ℕ) where
-  pub summed-made : (add : Adder) (t f e c w x y z : List ℕ) (p q s : ℕ) (o : Run)
-      → add t f ws at ≡ (x, p) → add x e ws p ≡ (y, q) → add y c ws q ≡ (z, s) → add z w ws s ≡ o
-      → summed add t f e c w ws at ≡ o
-  unfolding summed
-  summed-made add t f e c w x y z p q s o g h i j = rw (g, h, i, j)
-
-  pub summed-of : (add : Adder) (n q : ℕ) (t f s w e c : List ℕ) (o : Run) → e ≡ word n 4 s → c ≡ public n (K q)
-      → summed add t f e c w ws at ≡ o → summed add t f (word n 4 s) (public n (K q)) w ws at ≡ o
-  summed-of add n q t f s w e c o g h i = rw (← g, ← h) i
-
-  pub temp-made : (k : ℕ) (add : Adder) (n q : ℕ) (w s f a t : List ℕ) (p : ℕ) (o : Run)
-      → chosen q (word n 1 s) (word n 2 s) (word n 3 s) ws at ≡ (f, p) → a ≡ word n 0 s → t ≡ rotated k 5 a
-      → summed add t f (word n 4 s) (public n (K q)) w ws p ≡ o → temp k add n q w s ws at ≡ o
-  unfolding temp
-  temp-made k add n q w s f a t p o g x h l = rw (g, ← x, ← h) l
-
-  pub round-made : (k : ℕ) (add : Adder) (n q : ℕ) (w s t z r : List ℕ) (p : ℕ)
-      → temp k add n q w s ws at ≡ (t, p) → z ≡ moved k n t s → r ≡ z → round k add n q w s ws at ≡ (r, p)
-  unfolding round
-  round-made k add n q w s t z r p e g h = rw (e, h, g)
+-- ---- round_at: the sum, and the words moved on
+pub round-made : (k : ℕ) (add : Adder) (n q : ℕ) (w s t z r ws : List ℕ) (at p : ℕ)
+    → temp k add n q w s ws at ≡ (t, p) → z ≡ moved k n t s → r ≡ z → round k add n q w s ws at ≡ (r, p)
+unfolding round
+round-made k add n q w s t z r ws at p e g h = rw (e, h, g)
 
 -- ---- rounds_at: the rounds from round t on, of m in all
 left-one : (m t : ℕ) → t < m → m - t ≡ suc (m - (t + 1))

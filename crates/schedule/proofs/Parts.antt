@@ -48,11 +48,6 @@ pub following-made : (k n : ℕ) (W a b c d x y z : List ℕ)
 unfolding following
 following-made k n W a b c d x y z ea eb ec ed ex ey ez = rw (← ea, ← eb, ← ec, ← ed, ← ex, ← ey) ez
 
--- ---- schedule_word: the next word, stored after the others
-pub word-added : (n t : ℕ) (f x u u′ : List ℕ) → x ≡ f → firsts n (t + 1) u′ ≡ firsts n t u ++ x
-    → firsts n (t + 1) u′ ≡ firsts n t u ++ f
-word-added n t f x u u′ e g = rw (← e) g
-
 -- ---- schedule_at: what is left, from the first t words on, gives all
 module _ (k n m : ℕ) where
   pub schedule-begins : (u u′ block : List ℕ) → length block ≡ 16 * n → length u ≡ 80 * n → u′ ≡ sets u 0 block

@@ -1,11 +1,11 @@
 -- one word of several is stored after others
 use borrow.Author.Needs.{needs}
-use Rattle.masked_words.proofs.Parts.{move-word-made}
+use Rattle.masked_words.proofs.Parts.{put-word-of}
 use Rattle.masked_words.proofs.move_word.Statement.{statement}
 use Rattle.masked_words.proofs.move_word.Tie as tie
 
 returns : tie.Need-returns
-returns c = search move-word-made
+returns c = search put-word-of
 
 pub move-word-spec : {M : Type 1} → statement M
 move-word-spec =
