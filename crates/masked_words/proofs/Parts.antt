@@ -36,9 +36,10 @@ module _ (n w : ℕ) (z z′ : List ℕ) where
       let next : (w + 1) * n ≡ w * n + length x = omega arith in
       rw (next, g) (take-sets z x (w * n) (omega arith))
 
-  pub move-word-made : (i : ℕ) (s x : List ℕ) → x ≡ word n i s → firsts n (w + 1) z′ ≡ firsts n w z ++ x
-      → firsts n (w + 1) z′ ≡ firsts n w z ++ word n i s
-  move-word-made i s x e g = rw (← e) g
+  -- what it is comes from how it was made
+  pub put-word-of : (x y : List ℕ) → x ≡ y → firsts n (w + 1) z′ ≡ firsts n w z ++ x
+      → firsts n (w + 1) z′ ≡ firsts n w z ++ y
+  put-word-of x y e g = rw (← e) g
 
 -- no word
 pub firsts-none : (n : ℕ) (z : List ℕ) → firsts n 0 z ≡ []
