@@ -36,7 +36,7 @@ use Rattle.rules.proofs.Openings.{opened-lt}
 use Rattle.rules.proofs.Pairs.{refresh-rule}
 use Rattle.rules.proofs.Addition.{add-rule, split-rule}
 use Rattle.rules.proofs.Conversion.{draws-one, draws-more}
-use Rattle.rules.proofs.Ends.{b2a-ends, a2b-ends}
+use Rattle.rules.proofs.Ends.{b2a-length, a2b-length, b2a-ends, a2b-ends}
 use Rattle.rules.proofs.Demand3.{b2a-independent, a2b-independent}
 use Rattle.rules.proofs.Calls.{one-outcome}
 
@@ -115,6 +115,10 @@ pub a2b-record-settles : (A r G : ℕ) (came : List ℕ)
     → (let o = a2bRecordCall 32 A r G came in
     Settles None None (length came ≡ 165) None None (o .0) (a2bRecord 32 A r G) came (o .1))
 a2b-record-settles A r G came = record-settles 165 (a2bRecord 32 A r G) came
+
+-- The records have 7 and 5k + 5 entries, at every width.
+pub record-lengths : (k x r G : ℕ) → 0 < k → (length (b2aRecord k x r G) ≡ 7) × (length (a2bRecord k x r G) ≡ 5 * k + 5)
+record-lengths k x r G h = (b2a-length k x r G, a2b-length k x r G h)
 
 -- A compression: refused, the chain record exactly as given; accepted, the new chain with 0 after 5n words, and
 -- 5,220·n(n−1) words drawn. What the record has after 5n words, and the supply after those drawn, is not looked at.

@@ -14,7 +14,7 @@ use Rattle.rules.specs.Numbers.{largest, allowed}
 use Rattle.rules.specs.Shares.{expand}
 use Rattle.rules.specs.Convert.{Adder, Refresh, widen, halved, toBool, toArith}
 use Rattle.rules.specs.Counts.{addDraws, toBoolDraws}
-use Rattle.rules.proofs.Allowed.{Count, one, two, four, eight, counted, some}
+use Rattle.rules.proofs.Allowed.{Taken, one, two, four, eight, counted, some}
 use Rattle.rules.proofs.Conversion.{negatives, toBool-one, toBool-more, draws-one, draws-more}
 use Rattle.rules.proofs.Rule.{next-rule}
 use Rattle.rules.proofs.Loops.{Run}
@@ -28,7 +28,7 @@ halved-count n h l = go (counted n h) l
     made : (n : ℕ) → 1 < n → allowed (n / 2) ≡ true → n ≡ n / 2 * 2 → n ≤ largest → Halves n
     made n l h e r = record { half = h; even = e; more = l; room = r; draws = draws-more (addDraws bits) n l }
 
-    go : {n : ℕ} → Count n → 1 < n → Halves n
+    go : {n : ℕ} → Taken n → 1 < n → Halves n
     go one l = absurd (omega arith)
     go two l = made 2 l refl refl (omega arith)
     go four l = made 4 l refl refl (omega arith)

@@ -10,8 +10,8 @@ use lib.Seq.{take-at, drop-at, drop-drop}
 use Rattle.rules.specs.Hash.{bytesOf, numberOf, wordsOf, zeros, padding, allBytes, ending}
 use Rattle.rules.specs.Standard.{SHA1, H0}
 use Rattle.rules.specs.Sha1.{publics, openWords, used, chainOf}
-use Rattle.rules.specs.Hmac.{Masked, marked, blocks, digestPadding, hmacShares, hmacTag}
-use Rattle.rules.specs.Counts.{compressions, sha1}
+use Rattle.rules.specs.Hmac.{marked, blocks, digestPadding, hmacShares, hmacTag}
+use Rattle.rules.specs.Counts.{compressions}
 use Rattle.rules.proofs.Loops.{Run, parts-room, parts-end}
 use Rattle.rules.proofs.Hashes.{ending-blocks}
 use Rattle.rules.proofs.Tags.{sha1-proper}

@@ -9,9 +9,8 @@ use lib.Bits.{bitXor}
 use lib.ListN.{length, getD, set, take, drop, replicate, length-drop, length-map, replicate-append-replicate}
 use lib.Seq.{sets, length-take-le, take-all, take-suc-set}
 use Rattle.words.proofs.Stores.{take-sets, filled-next, filled-end}
-use Rattle.rules.specs.Shares.{each, add}
+use Rattle.rules.specs.Shares.{each}
 use Rattle.rules.specs.Sha1.{word, public}
-use Rattle.rules.specs.Counts.{andDraws}
 use Rattle.rules.proofs.Loops.{Run}
 use Rattle.masked_words.specs.Words.{firsts}
 

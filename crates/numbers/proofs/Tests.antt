@@ -1,21 +1,16 @@
 -- The first test that is not passed, looked for from the front; and a number for each share count, as a query tells it.
-use Prim.Native.Nat.{ℕ, zero, suc, _+_, _*_, _≤_, _<_}
+use Prim.Native.Nat.{ℕ, zero, suc, _*_, _≤_}
 use mathlib.Core.Path.{_≡_, refl, sym, ap, _∙_}
 use mathlib.Core.Bool.{Bool, true, false}
 use mathlib.Core.List.{List, [], _∷_}
 use native.Mathlib.Nat.{mul-zero}
-use native.Mathlib.Numerals.{add-one}
 use native.Mathlib.Omega.{arith}
 use lib.Dec.{eqb}
-use lib.ListN.{length, getD, drop, drop-of-length-le}
-use lib.Seq.{drop-cons}
-use borrow.Author.Tests.{eqb-true}
 use Rattle.rules.specs.Numbers.{either, allowed, Test, test, first, settled, told}
 use Rattle.rules.specs.Convert.{choose}
-use Rattle.rules.proofs.Calls.{settled-refused}
 use Rattle.rules.specs.declared.Answer.{Answer}
 use Rattle.rules.specs.Calls.{query}
-use Rattle.rules.proofs.Allowed.{Count, one, two, four, eight, counted}
+use Rattle.rules.proofs.Allowed.{Taken, one, two, four, eight, counted}
 use Rattle.numbers.specs.Tests.{after, byCount, byText}
 
 -- ---- tests one after the other give what their list gives
@@ -98,7 +93,7 @@ module _ (d : ℕ → ℕ) (n : ℕ) where
   pub told-below : (b : ℕ) → d 1 ≤ b → d 2 ≤ b → d 4 ≤ b → d 8 ≤ b → told (test 1 (allowed n) ∷ []) (d n) ≤ b
   told-below b h₁ h₂ h₄ h₈ = rw told-count (go (allowed n) refl)
     where
-      at : {n : ℕ} → Count n → d n ≤ b
+      at : {n : ℕ} → Taken n → d n ≤ b
       at one = h₁
       at two = h₂
       at four = h₄
@@ -113,7 +108,7 @@ module _ (d : ℕ → ℕ) (n : ℕ) where
       ≡ record { number = first (test 1 (allowed n) ∷ []); drawn = byCount n two′ four′ eight′ }
   by-count two′ four′ eight′ h₁ h₂ h₄ h₈ = rw (told-count, go (allowed n) refl)
     where
-      at : {n : ℕ} → Count n → d n ≡ byCount n two′ four′ eight′
+      at : {n : ℕ} → Taken n → d n ≡ byCount n two′ four′ eight′
       at one = h₁
       at two = h₂
       at four = h₄

@@ -3,14 +3,13 @@ use Prim.Native.Nat.{ℕ, zero, suc, _+_, _-_, _*_, _/_, _%_, _^_, _≤_, _<_}
 use mathlib.Core.Path.{_≡_, refl, sym, ap, _∙_}
 use mathlib.Core.List.{List, _++_}
 use native.Mathlib.Omega.{arith}
-use native.Mathlib.Nat.{div-eq-of-lt, lt-of-lt-of-le, pow-le-pow-right, zero-lt-suc}
 use lib.ListN.{length, getD, set, take, drop, replicate, length-append, length-drop, length-replicate, List·getD-append}
 use lib.Seq.{getD-append-add, getD-take, getD-drop, length-take-le}
 use Rattle.words.proofs.Stores.{filled-next, filled-end}
 use Rattle.rules.specs.Hash.{Hash, bytesOf, numberOf, wordsOf, zeros, padding, ended, ending}
 use Rattle.rules.specs.Standard.{SHA1}
 use Rattle.rules.proofs.Bytes.{pow-bytes, byte-of, length-bytes, length-words}
-use Rattle.padding.specs.Whole.{Hashable, blocksIn}
+use Rattle.padding.specs.Whole.{blocksIn}
 
 abbrev H : Hash
 H = SHA1 32

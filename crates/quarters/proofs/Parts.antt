@@ -1,15 +1,14 @@
 -- The function of a quarter, from the parts that the code works out one after the other.
 use Prim.Native.Nat.{ℕ, zero, suc, _+_, _*_, _≤_, _<_}
-use mathlib.Core.Path.{_≡_, refl, sym, _∙_}
+use mathlib.Core.Path.{_≡_, refl}
 use mathlib.Core.List.{List}
 use mathlib.Core.Logic.{_⊎_, inl, inr}
 use native.Mathlib.Omega.{arith}
 use lib.Bits.{bitXor}
-use lib.ListN.{length}
 use Rattle.rules.specs.Shares.{each, and}
 use Rattle.rules.specs.Standard.{K}
 use Rattle.rules.specs.Sha1.{word, public, blended, chosen}
-use Rattle.rules.specs.Counts.{andDraws, quarterAnds}
+use Rattle.rules.specs.Counts.{quarterAnds}
 use Rattle.rules.proofs.Loops.{Run}
 
 -- ---- the functions, each from its parts

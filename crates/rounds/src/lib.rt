@@ -17,7 +17,6 @@ use masked_words::word;
 use quarters::constant_of;
 use quarters::quarter_of;
 use rules::CHAIN;
-use rules::CHAIN_WORDS;
 use rules::LARGEST;
 
 // How many rounds there are, and how many to a quarter.

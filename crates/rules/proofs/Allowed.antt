@@ -1,33 +1,33 @@
 -- The share counts that calls take, case by case.
 use Prim.Native.Nat.{ℕ, _^_, _≤_, _<_}
-use mathlib.Core.Path.{_≡_, refl, sym, subst, _∙_}
+use mathlib.Core.Path.{_≡_, refl, sym, subst}
 use mathlib.Core.Bool.{Bool, true, false}
 use native.Mathlib.Omega.{arith}
 use lib.Dec.{eqb}
 use borrow.Author.Tests.{eqb-true}
 use Rattle.rules.specs.Numbers.{largest, either, allowed}
 
-pub data Count : ℕ → Type 0 where
-  one : Count 1
-  two : Count 2
-  four : Count 4
-  eight : Count 8
+pub data Taken : ℕ → Type 0 where
+  one : Taken 1
+  two : Taken 2
+  four : Taken 4
+  eight : Taken 8
 
-pub counted : (n : ℕ) → allowed n ≡ true → Count n
+pub counted : (n : ℕ) → allowed n ≡ true → Taken n
 unfolding allowed
 counted n h = go (eqb n 1) (eqb n 2) (eqb n 4) (eqb n 8) refl refl refl refl h
   where
-    go : (a b c d : Bool) → eqb n 1 ≡ a → eqb n 2 ≡ b → eqb n 4 ≡ c → eqb n 8 ≡ d → either a (either b (either c d)) ≡ true → Count n
-    go true b c d ea eb ec ed q = subst Count (sym (eqb-true n 1 ea)) one
-    go false true c d ea eb ec ed q = subst Count (sym (eqb-true n 2 eb)) two
-    go false false true d ea eb ec ed q = subst Count (sym (eqb-true n 4 ec)) four
-    go false false false true ea eb ec ed q = subst Count (sym (eqb-true n 8 ed)) eight
+    go : (a b c d : Bool) → eqb n 1 ≡ a → eqb n 2 ≡ b → eqb n 4 ≡ c → eqb n 8 ≡ d → either a (either b (either c d)) ≡ true → Taken n
+    go true b c d ea eb ec ed q = subst Taken (sym (eqb-true n 1 ea)) one
+    go false true c d ea eb ec ed q = subst Taken (sym (eqb-true n 2 eb)) two
+    go false false true d ea eb ec ed q = subst Taken (sym (eqb-true n 4 ec)) four
+    go false false false true ea eb ec ed q = subst Taken (sym (eqb-true n 8 ed)) eight
     go false false false false ea eb ec ed q = let z : _≡_ {A = ℕ} 0 1 = cc in absurd (omega arith)
 
 pub within : (n : ℕ) → allowed n ≡ true → (0 < n) × (n ≤ largest)
 within n h = go (counted n h)
   where
-    go : {n : ℕ} → Count n → (0 < n) × (n ≤ 8)
+    go : {n : ℕ} → Taken n → (0 < n) × (n ≤ 8)
     go one = omega arith
     go two = omega arith
     go four = omega arith
@@ -44,7 +44,7 @@ few n h = within n h .1
 pub power-of : (n : ℕ) → allowed n ≡ true → (p : ℕ) × (n ≡ 2 ^ p)
 power-of n h = go (counted n h)
   where
-    go : {n : ℕ} → Count n → (p : ℕ) × (n ≡ 2 ^ p)
+    go : {n : ℕ} → Taken n → (p : ℕ) × (n ≡ 2 ^ p)
     go one = (0, refl)
     go two = (1, refl)
     go four = (2, refl)

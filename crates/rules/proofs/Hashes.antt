@@ -1,7 +1,7 @@
 -- What is asked of a hash, and what follows: how long texts are with their padding, and hashing block by block.
 use Prim.Native.Nat.{ℕ, zero, suc, _+_, _-_, _*_, _/_, _≤_, _<_}
 use mathlib.Core.Path.{_≡_, refl, sym, ap, ap₂, _∙_}
-use mathlib.Core.List.{List, [], _∷_, _++_, map, append-assoc}
+use mathlib.Core.List.{List, _++_, map, append-assoc}
 use native.Mathlib.Nat.{add-div-left, mul-add-div, mul-div-right, mul-assoc, mul-comm, mul-add, add-mul, zero-add}
 use native.Mathlib.Omega.{arith}
 use lib.Bits.{bitXor}

@@ -1,17 +1,17 @@
 -- Masked HMAC over any hash in shares, once for all that is said of it: `Good x X` is what is kept of the shares x of the word X.
 -- Of any Good that the hash keeps, HMAC keeps it, draws so many words, and no other word has a say.
-use Prim.Native.Nat.{ℕ, zero, suc, _+_, _-_, _*_, _/_, _^_, _≤_, _<_}
-use mathlib.Core.Path.{_≡_, refl, sym, ap, _∙_, subst}
+use Prim.Native.Nat.{ℕ, zero, suc, _+_, _-_, _*_, _/_, _^_, _<_}
+use mathlib.Core.Path.{_≡_, refl, sym, ap, subst}
 use mathlib.Core.List.{List, [], _∷_, _++_, map}
-use native.Mathlib.Nat.{suc-mul, zero-mul, add-mul, zero-add, suc-add, mul-comm}
+use native.Mathlib.Nat.{suc-mul, zero-mul, add-mul, zero-add, suc-add}
 use native.Mathlib.Omega.{arith}
 use lib.Bits.{bitXor}
-use lib.ListN.{length, getD, set, take, drop, List·getD-append}
+use lib.ListN.{length, getD, set, List·getD-append}
 use lib.Seq.{set-append-left, getD-append-add}
 use Rattle.rules.specs.Supply.{Rule, Shares}
-use Rattle.rules.specs.Hash.{Hash, blockBytes, chainWords, padding, ending, blocks as blocksOf}
+use Rattle.rules.specs.Hash.{Hash, blockBytes, chainWords, ending, blocks as blocksOf}
 use Rattle.rules.specs.Sha1.{public, publics}
-use Rattle.rules.specs.Hmac.{Masked, splits, marked, everyByte, keyed, blocks, digestPadding, hmacShares}
+use Rattle.rules.specs.Hmac.{Masked, splits, marked, everyByte, blocks, digestPadding, hmacShares}
 use Rattle.rules.specs.Counts.{compressions}
 use Rattle.rules.proofs.Rule.{give, bind, counted}
 use Rattle.rules.proofs.Addition.{split-rule}

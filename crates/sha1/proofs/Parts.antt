@@ -83,10 +83,6 @@ module _ (n at : ℕ) where
   compress-after p q e g = omega (arith, parts)
 
 -- ---- compress: the used words of a chain record, lent, and a record of new ones with zeros after them
-pub used-length : (n : ℕ) (chain : List ℕ) → n ≤ largest → length chain ≡ 5 * largest → length (used n chain) ≡ 5 * n
-unfolding used
-used-length n chain h l = length-take-le (5 * n) chain (omega arith)
-
 pub used-lent : (n : ℕ) (chain : List ℕ) → take (5 * n - 0) chain ≡ used n chain
 unfolding used
 used-lent n chain = rw (sub-zero (5 * n))

@@ -58,6 +58,3 @@ module _ (m n : ℕ) (room : n ≤ m) where
       (ap (λ k. take n (replicate k 0)) whole
       ∙ ap (take n) (sym (replicate-append-replicate n (m - n) 0))
       ∙ take-at (replicate n 0) (replicate (m - n) 0) n (length-replicate n 0))
-
-  pub lent-length : length (take {A = ℕ} (n - 0) (replicate m 0)) ≡ n
-  lent-length = ap length lent-zeros ∙ length-replicate n 0

@@ -1,6 +1,6 @@
 -- up to word w the words are opened and written as bytes
 use borrow.Author.Needs.{needs}
-use Prim.Native.Nat.{_-_, _*_, _≤_}
+use Prim.Native.Nat.{_-_, _≤_}
 use mathlib.Core.Path.{_≡_}
 use native.Mathlib.Nat.{zero-mul}
 use lib.ListN.{length}
