@@ -1,19 +1,14 @@
--- The first test that is not passed, looked for from the front; and a number for each share count, as a query tells it.
-use Prim.Native.Nat.{ℕ, zero, suc, _+_, _*_, _≤_, _<_}
+-- Tests one after the other give what the list of them gives; and what queries tell, by the share count and by a text.
+use Prim.Native.Nat.{ℕ, zero, suc, _*_, _≤_}
 use mathlib.Core.Path.{_≡_, refl, sym, ap, _∙_}
 use mathlib.Core.Bool.{Bool, true, false}
 use mathlib.Core.List.{List, [], _∷_}
 use native.Mathlib.Nat.{mul-zero}
-use native.Mathlib.Numerals.{add-one}
 use native.Mathlib.Omega.{arith}
 use lib.Dec.{eqb}
-use lib.ListN.{length, getD, drop, drop-of-length-le}
-use lib.Seq.{drop-cons}
-use borrow.Author.Tests.{eqb-true}
+use Rattle.rules.specs.declared.Answer.{Answer}
 use Rattle.rules.specs.Numbers.{either, allowed, Test, test, first, settled, told}
 use Rattle.rules.specs.Convert.{choose}
-use Rattle.rules.proofs.Calls.{settled-refused}
-use Rattle.rules.specs.declared.Answer.{Answer}
 use Rattle.rules.specs.Calls.{query}
 use Rattle.rules.proofs.Allowed.{Count, one, two, four, eight, counted}
 use Rattle.numbers.specs.Tests.{after, byCount, byText}
