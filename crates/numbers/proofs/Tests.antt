@@ -1,4 +1,4 @@
--- The first test that is not passed, looked for from the front; and a number for each share count, as a query tells it.
+-- Tests one after the other give what the list of them gives; and what queries tell, by the share count and by a text.
 use Prim.Native.Nat.{ℕ, zero, suc, _*_, _≤_}
 use mathlib.Core.Path.{_≡_, refl, sym, ap, _∙_}
 use mathlib.Core.Bool.{Bool, true, false}
@@ -6,9 +6,9 @@ use mathlib.Core.List.{List, [], _∷_}
 use native.Mathlib.Nat.{mul-zero}
 use native.Mathlib.Omega.{arith}
 use lib.Dec.{eqb}
+use Rattle.rules.specs.declared.Answer.{Answer}
 use Rattle.rules.specs.Numbers.{either, allowed, Test, test, first, settled, told}
 use Rattle.rules.specs.Convert.{choose}
-use Rattle.rules.specs.declared.Answer.{Answer}
 use Rattle.rules.specs.Calls.{query}
 use Rattle.rules.proofs.Allowed.{Taken, one, two, four, eight, counted}
 use Rattle.numbers.specs.Tests.{after, byCount, byText}

@@ -6,20 +6,15 @@ use Rattle.rules.proofs.Tested.{one-ready, toBool-needs}
 use Rattle.flamivorse.proofs.flamivorse_a2b.Statement.{statement}
 use Rattle.flamivorse.proofs.flamivorse_a2b.Tie as tie
 
-returns : tie.Need-returns
-returns c = search (refused, toBool-needs)
-
 to-bool-requires : tie.Need-to-bool-requires
 to-bool-requires c κs =
     let told = c .before .before .before .a2b-words .ensures in
     let p = one-ready (toBoolDraws (addDraws 32)) (λ n. n) told (c .before .before .one-input .ensures) (c .before .if1 .left) in
     search needs
 
-returns-2 : tie.Need-returns-2
-returns-2 c = search (done, toBool-needs)
-
 pub flamivorse-a2b-spec : {M : Type 1} → statement M
 flamivorse-a2b-spec =
     tie.close
-    (tie.spec (λ c κs. search needs) (λ c κs. search needs) (λ c κs. search needs) returns to-bool-requires
-    (λ c κs. search needs) (λ c. search needs) returns-2)
+    (tie.spec (λ c κs. search needs) (λ c κs. search needs) (λ c κs. search needs)
+    (λ c. search (refused, toBool-needs)) to-bool-requires (λ c κs. search needs) (λ c. search needs)
+    (λ c. search (done, toBool-needs)))

@@ -6,20 +6,15 @@ use Rattle.rules.proofs.Tested.{two-ready, add-needs}
 use Rattle.flamivorse.proofs.flamivorse_add.Statement.{statement}
 use Rattle.flamivorse.proofs.flamivorse_add.Tie as tie
 
-returns : tie.Need-returns
-returns c = search (refused, add-needs, needs)
-
 add-at-requires : tie.Need-add-at-requires
 add-at-requires c κs =
     let told = c .before .before .before .add-words .ensures in
     let p = two-ready (addDraws 32) told (c .before .before .two-inputs .ensures) (c .before .if1 .left) in
     search needs
 
-returns-2 : tie.Need-returns-2
-returns-2 c = search (done, add-needs, needs)
-
 pub flamivorse-add-spec : {M : Type 1} → statement M
 flamivorse-add-spec =
     tie.close
-    (tie.spec (λ c κs. search needs) (λ c κs. search needs) (λ c κs. search needs) returns add-at-requires
-    (λ c κs. search needs) (λ c. search needs) returns-2)
+    (tie.spec (λ c κs. search needs) (λ c κs. search needs) (λ c κs. search needs)
+    (λ c. search (refused, add-needs, needs)) add-at-requires (λ c κs. search needs) (λ c. search needs)
+    (λ c. search (done, add-needs, needs)))

@@ -6,20 +6,14 @@ use Rattle.rules.proofs.Tested.{two-ready, and-needs}
 use Rattle.flamivorse.proofs.flamivorse_and.Statement.{statement}
 use Rattle.flamivorse.proofs.flamivorse_and.Tie as tie
 
-returns : tie.Need-returns
-returns c = search (refused, and-needs)
-
 and-at-requires : tie.Need-and-at-requires
 and-at-requires c κs =
     let told = c .before .before .before .and-words .ensures in
     let p = two-ready andDraws told (c .before .before .two-inputs .ensures) (c .before .if1 .left) in
     search needs
 
-returns-2 : tie.Need-returns-2
-returns-2 c = search (done, and-needs)
-
 pub flamivorse-and-spec : {M : Type 1} → statement M
 flamivorse-and-spec =
     tie.close
-    (tie.spec (λ c κs. search needs) (λ c κs. search needs) (λ c κs. search needs) returns and-at-requires
-    (λ c κs. search needs) (λ c. search needs) returns-2)
+    (tie.spec (λ c κs. search needs) (λ c κs. search needs) (λ c κs. search needs) (λ c. search (refused, and-needs))
+    and-at-requires (λ c κs. search needs) (λ c. search needs) (λ c. search (done, and-needs)))

@@ -6,9 +6,6 @@ use Rattle.rules.proofs.Tested.{one-ready, toArith-needs}
 use Rattle.flamivorse.proofs.flamivorse_b2a.Statement.{statement}
 use Rattle.flamivorse.proofs.flamivorse_b2a.Tie as tie
 
-returns : tie.Need-returns
-returns c = search (refused, toArith-needs)
-
 to-arith-requires : tie.Need-to-arith-requires
 to-arith-requires c κs =
     let told = c .before .before .before .b2a-words .ensures in
@@ -16,11 +13,9 @@ to-arith-requires c κs =
     let p = one-ready d (λ n. n) told (c .before .before .one-input .ensures) (c .before .if1 .left) in
     search needs
 
-returns-2 : tie.Need-returns-2
-returns-2 c = search (done, toArith-needs)
-
 pub flamivorse-b2a-spec : {M : Type 1} → statement M
 flamivorse-b2a-spec =
     tie.close
-    (tie.spec (λ c κs. search needs) (λ c κs. search needs) (λ c κs. search needs) returns to-arith-requires
-    (λ c κs. search needs) (λ c. search needs) returns-2)
+    (tie.spec (λ c κs. search needs) (λ c κs. search needs) (λ c κs. search needs)
+    (λ c. search (refused, toArith-needs)) to-arith-requires (λ c κs. search needs) (λ c. search needs)
+    (λ c. search (done, toArith-needs)))

@@ -6,20 +6,15 @@ use Rattle.rules.proofs.Tested.{one-ready, expand-needs}
 use Rattle.flamivorse.proofs.flamivorse_expand.Statement.{statement}
 use Rattle.flamivorse.proofs.flamivorse_expand.Tie as tie
 
-returns : tie.Need-returns
-returns c = search (refused, expand-needs)
-
 expand-at-requires : tie.Need-expand-at-requires
 expand-at-requires c κs =
     let told = c .before .before .before .expand-words .ensures in
     let p = one-ready (λ n. n) (λ n. 2 * n) told (c .before .before .widening .ensures) (c .before .if1 .left) in
     search needs
 
-returns-2 : tie.Need-returns-2
-returns-2 c = search (done, expand-needs)
-
 pub flamivorse-expand-spec : {M : Type 1} → statement M
 flamivorse-expand-spec =
     tie.close
-    (tie.spec (λ c κs. search needs) (λ c κs. search needs) (λ c κs. search needs) returns expand-at-requires
-    (λ c κs. search needs) (λ c. search needs) returns-2)
+    (tie.spec (λ c κs. search needs) (λ c κs. search needs) (λ c κs. search needs)
+    (λ c. search (refused, expand-needs)) expand-at-requires (λ c κs. search needs) (λ c. search needs)
+    (λ c. search (done, expand-needs)))

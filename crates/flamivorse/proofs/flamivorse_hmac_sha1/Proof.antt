@@ -6,20 +6,15 @@ use Rattle.rules.proofs.Tested.{tag-ready, short-text, hmacTag-needs}
 use Rattle.flamivorse.proofs.flamivorse_hmac_sha1.Statement.{statement}
 use Rattle.flamivorse.proofs.flamivorse_hmac_sha1.Tie as tie
 
-returns : tie.Need-returns
-returns c = search (refused, hmacTag-needs)
-
 hmac-tag-requires : tie.Need-hmac-tag-requires
 hmac-tag-requires c κs =
     let told = c .before .before .before .hmac-words .ensures in
     let p = tag-ready told (c .before .before .tagging .ensures) (c .before .if1 .left) in
     search (eqb-true, short-text, needs)
 
-returns-2 : tie.Need-returns-2
-returns-2 c = search (done, hmacTag-needs)
-
 pub flamivorse-hmac-sha1-spec : {M : Type 1} → statement M
 flamivorse-hmac-sha1-spec =
     tie.close
-    (tie.spec (λ c κs. search needs) (λ c κs. search needs) (λ c κs. search needs) returns hmac-tag-requires
-    (λ c κs. search needs) (λ c. search needs) returns-2)
+    (tie.spec (λ c κs. search needs) (λ c κs. search needs) (λ c κs. search needs)
+    (λ c. search (refused, hmacTag-needs)) hmac-tag-requires (λ c κs. search needs) (λ c. search needs)
+    (λ c. search (done, hmacTag-needs)))

@@ -6,9 +6,6 @@ use Rattle.rules.proofs.Tested.{one-ready, refresh-needs, refresh-copied}
 use Rattle.flamivorse.proofs.flamivorse_refresh.Statement.{statement}
 use Rattle.flamivorse.proofs.flamivorse_refresh.Tie as tie
 
-returns : tie.Need-returns
-returns c = search (refused, refresh-needs)
-
 copy-requires : tie.Need-copy-requires
 copy-requires c κs =
     let told = c .before .before .before .refresh-words .ensures in
@@ -22,11 +19,9 @@ refresh-at-requires c κs =
     let p = one-ready refreshDraws (λ n. n) told (s .before .before .one-input .ensures) (s .before .if1 .left) in
     search needs
 
-returns-2 : tie.Need-returns-2
-returns-2 c = search (done, refresh-needs, refresh-copied)
-
 pub flamivorse-refresh-spec : {M : Type 1} → statement M
 flamivorse-refresh-spec =
     tie.close
-    (tie.spec (λ c κs. search needs) (λ c κs. search needs) (λ c κs. search needs) returns copy-requires refresh-at-requires
-    (λ c κs. search needs) (λ c. search needs) returns-2)
+    (tie.spec (λ c κs. search needs) (λ c κs. search needs) (λ c κs. search needs)
+    (λ c. search (refused, refresh-needs)) copy-requires refresh-at-requires (λ c κs. search needs)
+    (λ c. search needs) (λ c. search (done, refresh-needs, refresh-copied)))

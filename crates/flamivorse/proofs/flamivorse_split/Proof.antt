@@ -5,20 +5,15 @@ use Rattle.rules.proofs.Tested.{split-ready, split-needs, split-sized}
 use Rattle.flamivorse.proofs.flamivorse_split.Statement.{statement}
 use Rattle.flamivorse.proofs.flamivorse_split.Tie as tie
 
-returns : tie.Need-returns
-returns c = search (refused, split-needs)
-
 split-at-requires : tie.Need-split-at-requires
 split-at-requires c κs =
     let told = c .before .before .before .refresh-words .ensures in
     let p = split-ready told (c .before .before .splitting .ensures) (c .before .if1 .left) in
     search needs
 
-returns-2 : tie.Need-returns-2
-returns-2 c = search (done, split-needs, split-sized)
-
 pub flamivorse-split-spec : {M : Type 1} → statement M
 flamivorse-split-spec =
     tie.close
-    (tie.spec (λ c κs. search needs) (λ c κs. search needs) (λ c κs. search needs) returns split-at-requires
-    (λ c κs. search needs) (λ c. search needs) returns-2)
+    (tie.spec (λ c κs. search needs) (λ c κs. search needs) (λ c κs. search needs)
+    (λ c. search (refused, split-needs)) split-at-requires (λ c κs. search needs) (λ c. search needs)
+    (λ c. search (done, split-needs, split-sized)))

@@ -6,20 +6,15 @@ use Rattle.rules.proofs.Tested.{key-ready, splitKey-needs}
 use Rattle.flamivorse.proofs.flamivorse_split_key.Statement.{statement}
 use Rattle.flamivorse.proofs.flamivorse_split_key.Tie as tie
 
-returns : tie.Need-returns
-returns c = search (refused, splitKey-needs)
-
 split-key-requires : tie.Need-split-key-requires
 split-key-requires c κs =
     let told = c .before .before .before .key-words .ensures in
     let p = key-ready told (c .before .before .key-splitting .ensures) (c .before .if1 .left) in
     search (leb-true, needs)
 
-returns-2 : tie.Need-returns-2
-returns-2 c = search (done, splitKey-needs)
-
 pub flamivorse-split-key-spec : {M : Type 1} → statement M
 flamivorse-split-key-spec =
     tie.close
-    (tie.spec (λ c κs. search needs) (λ c κs. search needs) (λ c κs. search needs) returns split-key-requires
-    (λ c κs. search needs) (λ c. search needs) returns-2)
+    (tie.spec (λ c κs. search needs) (λ c κs. search needs) (λ c κs. search needs)
+    (λ c. search (refused, splitKey-needs)) split-key-requires (λ c κs. search needs) (λ c. search needs)
+    (λ c. search (done, splitKey-needs)))

@@ -7,12 +7,5 @@ use Rattle.numbers.proofs.by_count.Tie as tie
 pub by-count-spec : {M : Type 1} → statement M
 by-count-spec =
     tie.close
-    (tie.spec
-    (λ c κs. search needs)
-    (λ c κs. search needs)
-    (λ c κs. search needs)
-    (λ c κs. search needs)
-    (λ c κs. search needs)
-    (λ c κs. search needs)
-    (λ c. rw first-from (cc))
-    )
+    (tie.spec (λ c κs. search needs) (λ c κs. search needs) (λ c κs. search needs) (λ c κs. search needs)
+    (λ c κs. search needs) (λ c κs. search needs) (λ c. rw first-from (cc)))

@@ -7,12 +7,5 @@ use Rattle.numbers.proofs.key_splitting.Tie as tie
 pub key-splitting-spec : {M : Type 1} → statement M
 key-splitting-spec =
     tie.close
-    (tie.spec
-    (λ c κs. search needs)
-    (λ c κs. search needs)
-    (λ c κs. search needs)
-    (λ c κs. search needs)
-    (λ c κs. search needs)
-    (λ c κs. search needs)
-    (λ c. rw first-from (cc))
-    )
+    (tie.spec (λ c κs. search needs) (λ c κs. search needs) (λ c κs. search needs) (λ c κs. search needs)
+    (λ c κs. search needs) (λ c κs. search needs) (λ c. rw first-from (cc)))

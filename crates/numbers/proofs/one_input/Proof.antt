@@ -7,11 +7,5 @@ use Rattle.numbers.proofs.one_input.Tie as tie
 pub one-input-spec : {M : Type 1} → statement M
 one-input-spec =
     tie.close
-    (tie.spec
-    (λ c κs. search needs)
-    (λ c κs. search needs)
-    (λ c κs. search needs)
-    (λ c κs. search needs)
-    (λ c κs. search needs)
-    (λ c. rw first-from (cc))
-    )
+    (tie.spec (λ c κs. search needs) (λ c κs. search needs) (λ c κs. search needs) (λ c κs. search needs)
+    (λ c κs. search needs) (λ c. rw first-from (cc)))

@@ -7,10 +7,5 @@ use Rattle.numbers.proofs.splitting.Tie as tie
 pub splitting-spec : {M : Type 1} → statement M
 splitting-spec =
     tie.close
-    (tie.spec
-    (λ c κs. search needs)
-    (λ c κs. search needs)
-    (λ c κs. search needs)
-    (λ c κs. search needs)
-    (λ c. rw first-from (cc))
-    )
+    (tie.spec (λ c κs. search needs) (λ c κs. search needs) (λ c κs. search needs) (λ c κs. search needs)
+    (λ c. rw first-from (cc)))
