@@ -1,26 +1,14 @@
-// The hash that HMAC is over: its sizes, the chain that it starts from and its compression. The one crate that says which it is.
+// The hash that HMAC is over: the chain that it starts from and its compression. The one crate that says which it is.
 ghost use mathlib.Core.Path.{_≡_};
 ghost use Prim.Native.Nat.{_+_, _*_, _≤_, _<_};
 ghost use lib.ListN.{length, set};
 ghost use Rattle.rules.specs.Numbers.{largest};
 ghost use Rattle.rules.specs.Sha1.{publics, used, chainOf};
 ghost use Rattle.hash.specs.Hash.{hash};
-use rules::BLOCK_WORDS;
 use rules::CHAIN;
 use rules::CHAIN_WORDS;
 use rules::Chain;
-use rules::LARGEST;
 use sha1::Stepped;
-
-// Bytes of a word, of a block and of the padding's length field.
-pub const WORD_BYTES: usize = 4;
-
-pub const BLOCK_BYTES: usize = BLOCK_WORDS * WORD_BYTES;
-
-pub const LENGTH_BYTES: usize = 8;
-
-// Room for a block at the largest share count.
-pub const BLOCK: usize = BLOCK_WORDS * LARGEST;
 
 // The first share of word w becomes v.
 fn show_at(n: usize, w: usize, v: u32, z: &mut [u32])

@@ -12,15 +12,15 @@ ghost use Rattle.rules.specs.Hmac.{marked, blocks, digestPadding, hmacShares, h
 ghost use Rattle.rules.specs.Counts.{hmacDraws};
 ghost use Rattle.hash.specs.Hash.{hash};
 ghost use Rattle.padding.specs.Whole.{Hashable, blocksIn};
-use hash::BLOCK;
-use hash::BLOCK_BYTES;
-use hash::WORD_BYTES;
 use hash::publish;
 use padding::block_words;
 use padding::blocks_in;
+use rules::BLOCK;
+use rules::BLOCK_BYTES;
 use rules::BLOCK_WORDS;
 use rules::CHAIN_WORDS;
 use rules::Chain;
+use rules::WORD_BYTES;
 use sha1::Stepped;
 
 // The byte 0x36, and the byte 0x5c, in every byte of a word.

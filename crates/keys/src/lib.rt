@@ -7,9 +7,9 @@ ghost use Rattle.rules.specs.Supply.{split};
 ghost use Rattle.rules.specs.Hash.{wordsOf, keyBlock};
 ghost use Rattle.rules.specs.Hmac.{splitKey};
 ghost use Rattle.hash.specs.Hash.{hash};
-use hash::WORD_BYTES;
 use padding::joined;
 use rules::BLOCK_WORDS;
+use rules::WORD_BYTES;
 
 // Byte i of the key with zeros after it.
 fn key_byte(key: &[u8], i: usize) -> u8

@@ -6,10 +6,10 @@ ghost use lib.ListN.{length, getD, take, drop};
 ghost use Rattle.rules.specs.Hash.{ended, ending};
 ghost use Rattle.hash.specs.Hash.{hash};
 ghost use Rattle.padding.specs.Whole.{Hashable, blocksIn};
-use hash::BLOCK_BYTES;
-use hash::LENGTH_BYTES;
-use hash::WORD_BYTES;
+use rules::BLOCK_BYTES;
 use rules::BLOCK_WORDS;
+use rules::LENGTH_BYTES;
+use rules::WORD_BYTES;
 
 // How many blocks a text of so many bytes makes with its padding.
 pub fn blocks_in(length: usize) -> usize

@@ -4,18 +4,13 @@
 ghost use Prim.Native.Nat.{_≤_};
 use lines::FINE;
 use lines::TOO_SHORT;
+use rules::BLOCK_WORDS;
+use rules::LONGEST_KEY;
+use rules::LONGEST_MESSAGE;
+use rules::TAG_BYTES;
 
-// The longest line that is read as a case, the longest key and data and the length of a tag, in bytes; and a key's
-// shares.
+// The longest line that is read as a case, in bytes.
 const LONGEST_LINE: usize = 9000;
-
-const LONGEST_KEY: usize = 64;
-
-const LONGEST_DATA: usize = 4096;
-
-const TAG: usize = 20;
-
-const KEY_SHARES: usize = 16;
 
 // How many cases there are, and how many of them are right.
 struct Tally {
@@ -26,7 +21,7 @@ struct Tally {
 // The tag of the data under the key, at one share; whether both calls were done.
 fn make_tag(key: &[u8], data: &[u8], tag: &mut [u8]) -> bool {
     let words = [0u32; 0];
-    let mut shares = [0u32; KEY_SHARES];
+    let mut shares = [0u32; BLOCK_WORDS];
     let split = flamivorse::flamivorse_split_key(1, key, &mut shares, &words);
     if split.number != 0 {
         return false;
@@ -37,7 +32,7 @@ fn make_tag(key: &[u8], data: &[u8], tag: &mut [u8]) -> bool {
 
 // Writes the line of a case; whether its tag is the digest.
 fn run_case(line: u64, number: &[u8], key: &[u8], data: &[u8], digest: &[u8]) -> bool {
-    let mut tag = [0u8; TAG];
+    let mut tag = [0u8; TAG_BYTES];
     if !make_tag(key, data, &mut tag) {
         return lines::complain(line, b"the library refuses the case");
     }
@@ -46,13 +41,13 @@ fn run_case(line: u64, number: &[u8], key: &[u8], data: &[u8], digest: &[u8]) ->
 
 // Reads a line's digest, and runs its case.
 fn read_digest(line: u64, text: &[u8], key: &[u8], data: &[u8]) -> bool {
-    let mut digest = [0u8; TAG];
+    let mut digest = [0u8; TAG_BYTES];
     let read = lines::hex_bytes(lines::field(text, 3), &mut digest);
     if read.fault != FINE {
-        return lines::complain_of(line, b"digest", read.fault, TAG);
+        return lines::complain_of(line, b"digest", read.fault, TAG_BYTES);
     }
-    if read.count != TAG {
-        return lines::complain_of(line, b"digest", TOO_SHORT, TAG);
+    if read.count != TAG_BYTES {
+        return lines::complain_of(line, b"digest", TOO_SHORT, TAG_BYTES);
     }
     if lines::field(text, 4).len() != 0 {
         return lines::complain(line, b"more than four fields");
@@ -62,10 +57,10 @@ fn read_digest(line: u64, text: &[u8], key: &[u8], data: &[u8]) -> bool {
 
 // Reads a line's data, and then the rest.
 fn read_data(line: u64, text: &[u8], key: &[u8]) -> bool {
-    let mut data = [0u8; LONGEST_DATA];
+    let mut data = [0u8; LONGEST_MESSAGE];
     let read = lines::hex_bytes(lines::field(text, 2), &mut data);
     if read.fault != FINE {
-        return lines::complain_of(line, b"data", read.fault, LONGEST_DATA);
+        return lines::complain_of(line, b"data", read.fault, LONGEST_MESSAGE);
     }
     let end = read.count;
     read_digest(line, text, key, &data[..end])

@@ -18,10 +18,9 @@ use quarters::constant_of;
 use quarters::quarter_of;
 use rules::CHAIN;
 use rules::LARGEST;
+use rules::ROUNDS;
 
-// How many rounds there are, and how many to a quarter.
-const ROUNDS: usize = 80;
-
+// How many rounds there are to a quarter.
 const QUARTER: usize = 20;
 
 // ---- the sum of a round

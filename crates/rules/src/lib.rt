@@ -9,14 +9,26 @@ pub const LONGEST_KEY: usize = 64;
 
 pub const LONGEST_MESSAGE: usize = 4096;
 
-// SHA-1's sizes: words of a block and of a chain, bytes of a tag; and room for a chain at the largest share count.
+// SHA-1's sizes: words of a block and of a chain, rounds; bytes of a word, of a block, of the padding's length field and of
+// a tag.
 pub const BLOCK_WORDS: usize = 16;
 
 pub const CHAIN_WORDS: usize = 5;
 
-pub const TAG_BYTES: usize = 20;
+pub const ROUNDS: usize = 80;
 
+pub const WORD_BYTES: usize = 4;
+
+pub const BLOCK_BYTES: usize = BLOCK_WORDS * WORD_BYTES;
+
+pub const LENGTH_BYTES: usize = 8;
+
+pub const TAG_BYTES: usize = CHAIN_WORDS * WORD_BYTES;
+
+// Room for a chain and for a block at the largest share count.
 pub const CHAIN: usize = CHAIN_WORDS * LARGEST;
+
+pub const BLOCK: usize = BLOCK_WORDS * LARGEST;
 
 // What a call on shares hands back: the number of section 3, and how many words it drew.
 #[repr(C)]

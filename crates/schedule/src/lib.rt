@@ -12,9 +12,10 @@ use masked_words::rotate;
 use masked_words::word;
 use rules::BLOCK_WORDS;
 use rules::LARGEST;
+use rules::ROUNDS;
 
-// How many words the schedule has, and room for them at the largest share count.
-pub const WORDS: usize = 80;
+// How many words the schedule has, one to a round, and room for them at the largest share count.
+pub const WORDS: usize = ROUNDS;
 
 pub const ROOM: usize = WORDS * LARGEST;
 

@@ -13,6 +13,9 @@ Inv-loop n values z₀ w₀ z w = (w ≤ length values) × (length z ≡ length 
 abbrev μ-loop : tie.MeasureT-loop
 μ-loop n values z₀ w₀ z w = length values - w
 
+loop-again : tie.Need-loop-again Inv-loop μ-loop
+loop-again c = (search needs, search needs, search publics-next)
+
 pub publish-spec : {M : Type 1} → statement M
 publish-spec =
     tie.close
@@ -26,6 +29,6 @@ publish-spec =
     (λ c κs. search place-in)
     (λ c. search needs)
     (λ c. search needs)
-    (λ c. (search needs, search needs, search publics-next))
+    loop-again
     (λ c. search needs)
     (λ c. search publics-end))

@@ -4,6 +4,9 @@ use Rattle.hmac.proofs.Steps.{hmac-made, hmac-count, inner-room, text-r
 use Rattle.hmac.proofs.hmac_shares.Statement.{statement}
 use Rattle.hmac.proofs.hmac_shares.Tie as tie
 
+returns : tie.Need-returns
+returns c = (search hmac-made, search hmac-count)
+
 pub hmac-shares-spec : {M : Type 1} → statement M
 hmac-shares-spec =
     tie.close
@@ -12,4 +15,4 @@ hmac-shares-spec =
     (λ c κs. (search needs, search needs, search needs, search needs, search text-room))
     (λ c κs. (search needs, search needs, search needs, search outer-room))
     (λ c κs. (search needs, search needs, search digest-room))
-    (λ c. (search hmac-made, search hmac-count)))
+    returns)
