@@ -6,10 +6,12 @@ use native.Mathlib.Omega.{arith}
 use native.Mathlib.Nat.{mul-le-mul-right, suc-mul, sub-zero, zero-mul}
 use native.Mathlib.Numerals.{add-one}
 use lib.ListN.{length, getD, set, take, drop, replicate, length-append, length-replicate, replicate-append-replicate}
-use lib.Seq.{set-at, take-at, drop-at, take-all, take-suc, length-take-le, take-append-add, drop-append-add, take-nil, drop-nil}
+use lib.Seq.{set-at, take-at, take-all, take-suc, length-take-le, take-append-add, drop-append-add, take-nil, drop-nil}
+use Rattle.rules.specs.Numbers.{largest}
 use Rattle.rules.specs.Standard.{H0}
 use Rattle.rules.specs.Sha1.{public, publics, used, chainOf}
 use Rattle.rules.proofs.Loops.{times-suc}
+use Rattle.sha1.proofs.Parts.{zeros-after}
 
 -- word w of m has its place
 pub place-room : (m n w : ℕ) → w < m → w * n + n ≤ m * n
@@ -91,15 +93,10 @@ module _ (n : ℕ) (some : 0 < n) where
   publics-part m i vs = ap (take (m * n)) (publics-drop i vs) ∙ publics-take m (drop i vs)
 
 -- ---- the chain that starts a hash
-pub start-made : (n : ℕ) (h : List ℕ) → n ≤ 8 → h ≡ publics n H0 → h ++ drop {A = ℕ} (5 * n - 0) (replicate 40 0) ≡ chainOf n (publics n H0)
+pub start-made : (n : ℕ) (h : List ℕ) → n ≤ largest → h ≡ publics n H0
+    → h ++ drop {A = ℕ} (5 * n - 0) (replicate (5 * largest) 0) ≡ chainOf n (publics n H0)
 unfolding chainOf
-start-made n h l e =
-    let rest : 40 ≡ 5 * n + (40 - 5 * n) = omega arith in
-    rw (e, sub-zero (5 * n))
-    (ap (λ (t : List ℕ). publics n H0 ++ t)
-    (ap (λ i. drop {A = ℕ} (5 * n) (replicate i 0)) rest
-    ∙ ap (drop {A = ℕ} (5 * n)) (sym (replicate-append-replicate {A = ℕ} (5 * n) (40 - 5 * n) 0))
-    ∙ drop-at (replicate (5 * n) 0) (replicate (40 - 5 * n) 0) (5 * n) (length-replicate {A = ℕ} (5 * n) 0)))
+start-made n h l e = rw (e, zeros-after (5 * largest) (5 * n) (omega arith))
 
 pub start-used : (n : ℕ) → 0 < n → used n (chainOf n (publics n H0)) ≡ publics n H0
 unfolding used chainOf

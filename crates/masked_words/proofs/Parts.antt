@@ -1,7 +1,7 @@
 -- Words in shares, from the parts that the code works out one after the other.
 use Prim.Native.Nat.{ℕ, zero, suc, _+_, _-_, _*_, _≤_, _<_}
 use mathlib.Core.Path.{_≡_, refl, sym, ap, _∙_}
-use mathlib.Core.List.{List, [], _∷_, _++_, map}
+use mathlib.Core.List.{List, [], _++_, map}
 use native.Mathlib.Nat.{suc-mul, mul-le-mul-right}
 use native.Mathlib.Numerals.{add-one}
 use native.Mathlib.Omega.{arith}
@@ -11,6 +11,7 @@ use lib.Seq.{sets, length-take-le, take-all, take-suc-set}
 use Rattle.words.proofs.Stores.{take-sets, filled-next, filled-end}
 use Rattle.rules.specs.Shares.{each}
 use Rattle.rules.specs.Sha1.{word, public}
+use Rattle.rules.proofs.Bytes.{map-at}
 use Rattle.rules.proofs.Loops.{Run}
 use Rattle.masked_words.specs.Words.{firsts}
 
@@ -68,11 +69,6 @@ public-made zero m v z h e f = absurd (omega arith)
 public-made (suc n) m v z h e f = let q : suc n - 1 ≡ n = omega arith in rw (f, e, q)
 
 -- ---- rotate: f of each entry up to place i, and at the end of all
-map-at : (f : ℕ → ℕ) (x : List ℕ) (i : ℕ) → i < length x → getD (map f x) i 0 ≡ f (getD x i 0)
-map-at f [] i h = absurd (omega arith)
-map-at f (a ∷ x) zero h = refl
-map-at f (a ∷ x) (suc i) h = map-at f x i (omega arith)
-
 module _ (f : ℕ → ℕ) (x z : List ℕ) (i : ℕ) (same : length z ≡ length x) where
   pub mapped-next : (a : ℕ) → i < length x → a ≡ f (getD x i 0) → take i z ≡ take i (map f x)
       → take (i + 1) (set z i a) ≡ take (i + 1) (map f x)

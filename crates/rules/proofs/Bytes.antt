@@ -144,7 +144,7 @@ every-lt c size h = rw (← pow-bytes size) (number-lt size (replicate size c) (
     bytes (suc m) zero = h
     bytes (suc m) (suc i) = bytes m i
 
-map-at : (f : ℕ → ℕ) (b : List ℕ) (m : ℕ) → m < length b → getD (map f b) m 0 ≡ f (getD b m 0)
+pub map-at : (f : ℕ → ℕ) (b : List ℕ) (m : ℕ) → m < length b → getD (map f b) m 0 ≡ f (getD b m 0)
 map-at f [] m h = absurd (omega arith)
 map-at f (a ∷ b) zero h = refl
 map-at f (a ∷ b) (suc m) h = map-at f b m (omega arith)

@@ -91,7 +91,7 @@ pub chain-room : (n : ℕ) (chain : List ℕ) → length (map (λ (v : ℕ). v) 
     → 5 * n ≤ length chain
 chain-room n chain e h = omega (arith, chain-length chain e)
 
-zeros-after : (m n : ℕ) → n ≤ m → drop {A = ℕ} (n - 0) (replicate m 0) ≡ replicate (m - n) 0
+pub zeros-after : (m n : ℕ) → n ≤ m → drop {A = ℕ} (n - 0) (replicate m 0) ≡ replicate (m - n) 0
 zeros-after m n h =
     rw (sub-zero n)
     (ap (λ k. drop n (replicate k 0)) whole
