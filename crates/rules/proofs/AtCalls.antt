@@ -34,7 +34,7 @@ use Rattle.rules.proofs.Conversion.{Adds, words-take, words-drop, add-a
 use Rattle.rules.proofs.Conversion.{toArith-rule, toArith-opens, there-and-back, back-and-there}
 use Rattle.rules.proofs.Allowed.{within, power-of}
 use Rattle.rules.proofs.MaskedHmac.{Keeps}
-use Rattle.rules.proofs.Sizes.{Sized, add-sizes, sha1-sizes, compress-sized, hmacTag-sized, splitKey-sized}
+use Rattle.rules.proofs.Sizes.{add-sizes, compress-sized, hmacTag-sized, splitKey-sized, sha1-size}
 use Rattle.rules.proofs.Sizes.{andDraws-twice, compress-count}
 use Rattle.rules.proofs.Opens.{Masks, sha1-opens, compress-opens}
 use Rattle.rules.proofs.Tags.{sha1-proper, splitKey-opens, hmacTag-is}
@@ -121,9 +121,6 @@ module _ (n : ℕ) (count : Allowed n) where
         }
 
   -- ---- SHA-1 in shares, and a tag
-  sha1-size : Keeps (sha1 32) n (λ v. None) (Sized n)
-  sha1-size = sha1-sizes 32 n some 32 (add 32) (add-sizes 32 (lit< tt))
-
   sha1-keeps : Keeps (sha1 32) n (λ v. v < 2 ^ 32) (Masks 32 n)
   sha1-keeps = sha1-opens 32 n some (lit≤ tt) (addDraws 32) (add 32) adds 32 refl
 
@@ -133,7 +130,7 @@ module _ (n : ℕ) (count : Allowed n) where
   pub hmacTag-law : (key text : List ℕ) → length key ≡ 16 * n
       → Rule (((length text + 8) / 64 + 4) * (5220 * (n * (n - 1)))) (λ t. length t ≡ 20) (hmacTag (sha1 32) n key text)
   hmacTag-law key text size =
-      counted (hmacTag-sized (sha1 32) n some sha1-size sha1-proper key text size)
+      counted (hmacTag-sized (sha1 32) n some (sha1-size n some) sha1-proper key text size)
       (ap (λ d. ((length text + 8) / 64 + 4) * d) (compress-count n))
 
   pub tags : (key text : List ℕ) → Words 8 key → Words 8 text → length key ≤ 64 → (ws : List ℕ)
@@ -183,7 +180,7 @@ module _ (n : ℕ) (chain : Chain) (block : List ℕ) (whole : length (chain .sh
 
   compress-law : Allowed n → length block ≡ 16 * n → Rule d (λ z. length z ≡ 5 * n) rule
   compress-law c e =
-      counted (compress-sized (sha1 32) n (some n c) (sha1-size n c) (used n (chain .shares)) block
+      counted (compress-sized (sha1 32) n (some n c) (sha1-size n (some n c)) (used n (chain .shares)) block
       (length-used n c (chain .shares) whole) e) (compress-count n)
 
   module _ (ws : List ℕ) where

@@ -9,7 +9,7 @@ use lib.ListN.{length, getD, length-map, length-set, length-replicate}
 use Rattle.rules.specs.Supply.{Rule}
 use Rattle.rules.specs.Shares.{add}
 use Rattle.rules.specs.Convert.{Adder}
-use Rattle.rules.specs.Counts.{andDraws, addDraws, quarterAnds, roundsAnds, compressAnds, compressDraws, hmacDraws, sha1By}
+use Rattle.rules.specs.Counts.{andDraws, addDraws, quarterAnds, roundsAnds, compressAnds, compressDraws, hmacDraws, sha1By, sha1}
 use Rattle.rules.specs.Hash.{Hash, chainWords, digestBytes, allBytes, wordsOf, keyBlock}
 use Rattle.rules.specs.Sha1.{openWords, public, rotl, compress}
 use Rattle.rules.specs.Hmac.{Masked, splitKey, hmacShares, hmacTag}
@@ -69,6 +69,10 @@ module _ (k n : ℕ) (some : 0 < n) (ands : ℕ) (adder : Adder) (sizes : Sizes 
         starts = λ i b. tt;
         fits = λ v b. tt;
       }
+
+-- SHA-1 as the calls take it
+pub sha1-size : (n : ℕ) → 0 < n → KeepsHash (sha1 32) n (λ v. Unit {0}) (Sized n)
+sha1-size n some = sha1-sizes 32 n some 32 (add 32) (add-sizes 32 (omega arith))
 
 -- ---- any hash in shares
 module _ (M : Masked) (n : ℕ) (some : 0 < n) (keeps : KeepsHash M n (λ v. Unit {0}) (Sized n)) where

@@ -27,8 +27,7 @@ use Rattle.rules.proofs.Openings.{opened-lt}
 use Rattle.rules.proofs.Pairs.{refresh-rule, and-rule}
 use Rattle.rules.proofs.Addition.{add-loop-rule, expand-rule, split-rule}
 use Rattle.rules.proofs.Conversion.{add-adds, refresh-refreshes, toBool-rule, toArith-rule}
-use Rattle.rules.proofs.MaskedHmac.{Keeps}
-use Rattle.rules.proofs.Sizes.{Sized, add-sizes, sha1-sizes, compress-sized, hmacTag-sized, splitKey-sized}
+use Rattle.rules.proofs.Sizes.{sha1-size, compress-sized, hmacTag-sized, splitKey-sized}
 use Rattle.rules.proofs.Tags.{sha1-proper}
 use Rattle.rules.proofs.Loops.{chain-length}
 use Rattle.rules.proofs.Allowed.{within, power-of}
@@ -126,10 +125,6 @@ needs : {S : Type 0} {P : S → Type 0} {rule : Draw S} (d : ℕ) (q : Answer) (
     → query tests d ≡ q → first tests ≡ 0 → Rule d P rule → rule ws 0 .1 ≡ q .drawn
 needs d q tests ws e h r = r .place ws 0 ∙ zero-add d ∙ tells tests d q e h
 
--- of masked SHA-1 only the sizes are needed here
-sizes : (n : ℕ) → allowed n ≡ true → Keeps (sha1 32) n (λ v. Unit {0}) (Sized n)
-sizes n ok = sha1-sizes 32 n (within n ok .0) 32 (add 32) (add-sizes 32 (omega arith))
-
 module _ (n : ℕ) (came ws : List ℕ) (q : Answer) where
   pub split-needs : (value : ℕ) → first (test 1 (allowed n) ∷ test 3 (eqb (length came) n) ∷ []) ≡ 0
       → query (test 1 (allowed n) ∷ []) (n - 1) ≡ q → split n value ws 0 .1 ≡ q .drawn
@@ -205,7 +200,7 @@ module _ (n : ℕ) (came ws : List ℕ) (q : Answer) where
       let count = holds _ _ (p .0) in
       let size = eqb-true (length key) (16 * n) (holds _ _ (p .1 .0)) in
       needs (hmacDraws (sha1 32) n (length text)) q _ ws e (taken-text n _ count (holds _ _ (p .1 .1 .1 .0)))
-      (hmacTag-sized (sha1 32) n (within n count .0) (sizes n count) sha1-proper key text size)
+      (hmacTag-sized (sha1 32) n (within n count .0) (sha1-size n (within n count .0)) sha1-proper key text size)
 
 -- refresh works on a copy, and splitting by the length of its output
 pub refresh-copied : (x y ws : List ℕ) (r : List ℕ × ℕ) → y ≡ x → refresh y ws 0 ≡ r → refresh x ws 0 ≡ r
@@ -237,7 +232,8 @@ module _ (n number : ℕ) (chain : Chain) (block ws : List ℕ) (q : Answer)
       let count = holds _ _ (p .0) in
       let size = eqb-true (length block) (16 * n) (holds _ _ (p .1 .0)) in
       needs (compressDraws 32 n) q _ ws e (taken n count)
-      (compress-sized (sha1 32) n (within n count .0) (sizes n count) (used n (chain .shares)) block (full (within n count .1)) size)
+      (compress-sized (sha1 32) n (within n count .0) (sha1-size n (within n count .0)) (used n (chain .shares)) block
+      (full (within n count .1)) size)
 
   own : first (test 1 (allowed n) ∷ test 2 (eqb (length block) (16 * n)) ∷ test 5 (leb (made .1) (length ws)) ∷ []) ≡ number
   own = sym (same-test before [] 5 (q .drawn) (made .1) (length ws) draws) ∙ is
