@@ -7,12 +7,12 @@ use native.Mathlib.Nat.{suc-mul, add-zero, sub-zero, mul-le-mul-right}
 use native.Mathlib.Numerals.{add-one}
 use native.Mathlib.Omega.{arith}
 use lib.Bits.{bitXor, bitAnd}
-use lib.ListN.{length, getD, set, take, drop, length-map, length-set, drop-of-length-le}
+use lib.ListN.{length, getD, set, take, drop, replicate, length-map, length-set, drop-of-length-le}
 use lib.Seq.{drop-cons, take-all, length-take-le}
 use Rattle.words.proofs.Stores.{take-sets, filled-next, filled-end, set-last}
 use Rattle.words.specs.Word.{minus}
 use Rattle.rules.specs.Supply.{next, opened, split}
-use Rattle.rules.specs.Shares.{Step, each, pass, along, order, column, cross, and, doubleXor, carries, expand}
+use Rattle.rules.specs.Shares.{Step, each, pass, along, order, column, cross, and, doubleXor, carries, add, expand}
 use Rattle.rules.specs.Counts.{andDraws, addDraws}
 use Rattle.rules.proofs.Openings.{length-each, each-at}
 use Rattle.rules.proofs.Rule.{next-rule}
@@ -157,6 +157,13 @@ module _ (k : ℕ) (a w u ws : List ℕ) (at : ℕ) where
       → carries k a w 1 u ws at ≡ (v, p)
   unfolding carries
   carries-one t v p e f = ap (λ (r : Run). (each (doubleXor k) (r .0) w, r .1)) e ∙ ap (λ l. (l, p)) (sym f)
+
+-- AND, XOR, the carry loop from zeros and XOR, one after the other
+pub add-made : (k : ℕ) (ws x y w a u₀ u z : List ℕ) (at p q : ℕ) → and x y ws at ≡ (w, p) → a ≡ each bitXor x y
+    → u₀ ≡ replicate (length x) 0 → carries k a w (k - 1) u₀ ws p ≡ (u, q) → z ≡ each bitXor a u
+    → add k x y ws at ≡ (z, q)
+unfolding add
+add-made k ws x y w a u₀ u z at p q e f g h i = rw (e, ← f, ← g, h, i)
 
 -- ---- by shares: up to place i, z has the rule's shares
 abbrev pub EachTo : (ℕ → ℕ → ℕ) → List ℕ → List ℕ → List ℕ → ℕ → Type 0

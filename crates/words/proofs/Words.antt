@@ -18,6 +18,9 @@ xor-assoc a b c = bits (a ∷ b ∷ c ∷ []) (v 0 ⊕ v 1 ⊕ v 2) (v 0 ⊕ (v 
 pub xor-back : (a b : ℕ) → bitXor a (bitXor a b) ≡ b
 xor-back a b = bits (a ∷ b ∷ []) (v 0 ⊕ (v 0 ⊕ v 1)) (v 1) tt
 
+pub xor-swap : (a b c : ℕ) → bitXor (bitXor a b) c ≡ bitXor (bitXor a c) b
+xor-swap a b c = bits (a ∷ b ∷ c ∷ []) (v 0 ⊕ v 1 ⊕ v 2) (v 0 ⊕ v 2 ⊕ v 1) tt
+
 -- ---- below 2^k
 pub plus-lt : (k a b : ℕ) → plus k a b < 2 ^ k
 unfolding plus
