@@ -1,4 +1,5 @@
-// AND and addition of shares. n is the length of the slices.
+// AND and addition of shares, by loops over slices: for any count, the reference. Addition is chosen here: few shares go by
+// words of their own (crate `few`), the largest count by the same loops with a constant count, which the compiler unrolls.
 // Each function is proved to be its rule, word for word of the supply.
 ghost use mathlib.Core.Path.{_≡_};
 ghost use Prim.Native.Nat.{_+_, _-_, _*_, _≤_, _<_};
@@ -8,46 +9,37 @@ ghost use Rattle.rules.specs.Numbers.{largest};
 ghost use Rattle.rules.specs.Shares.{each, pass, along, cross, and, doubleXor, carries, add};
 ghost use Rattle.rules.specs.Counts.{andDraws, addDraws};
 ghost use Rattle.width.specs.Width.{bits};
-ghost use Rattle.adder.specs.Carried.{carried};
+use few::TURNS;
+use few::crossed;
+use few::is_few;
 use rules::LARGEST;
+use shares::copy;
 use shares::xor_each;
 use supply::draw_at;
-use veil::held;
-use width::BITS;
 use width::Word;
 
-// The turns of the carry loop: one less than the width.
-const TURNS: usize = BITS - 1;
-
 // By shares: zi = xi AND yi, the diagonal of the masked AND.
-fn and_each(x: &[Word], y: &[Word], z: &mut [Word])
-    requires { ⌜ (length (now y) ≡ length (now x)) × (length (now z) ≡ length (now x)) ⌝ }
+fn and_each(n: usize, x: &[Word], y: &[Word], z: &mut [Word])
+    requires { ⌜ (length (now x) ≡ n) × (length (now y) ≡ n) × (length (now z) ≡ n) ⌝ }
     ensures { λ _. ⌜ now (z .exit) ≡ each bitAnd (now (x .entry)) (now (y .entry)) ⌝ }
 {
     let mut i = 0;
-    while i < x.len() {
+    while i < n {
         z[i] = x[i] & y[i];
         i += 1;
     }
 }
 
 // By shares: zi = 2(xi XOR yi).
-fn double_xor_each(x: &[Word], y: &[Word], z: &mut [Word])
-    requires { ⌜ (length (now y) ≡ length (now x)) × (length (now z) ≡ length (now x)) ⌝ }
+fn double_xor_each(n: usize, x: &[Word], y: &[Word], z: &mut [Word])
+    requires { ⌜ (length (now x) ≡ n) × (length (now y) ≡ n) × (length (now z) ≡ n) ⌝ }
     ensures { λ _. ⌜ now (z .exit) ≡ each (doubleXor bits) (now (x .entry)) (now (y .entry)) ⌝ }
 {
     let mut i = 0;
-    while i < x.len() {
+    while i < n {
         z[i] = (x[i] ^ y[i]) << 1;
         i += 1;
     }
-}
-
-// Share j of the AND, zj, gets (s ⊕ (xi ∧ yj)) ⊕ (xj ∧ yi), in this order.
-fn crossed(zj: Word, s: Word, xi: Word, yj: Word, xj: Word, yi: Word, words: &[Word]) -> Word
-    ensures { λ r. ⌜ r ≡ bitXor zj (bitXor (bitXor s (bitAnd xi yj)) (bitAnd xj yi)) ⌝ }
-{
-    zj ^ held(held(s ^ (xi & yj), words) ^ (xj & yi), words)
 }
 
 // One draw of the AND: the word s comes in for the pair i < j.
@@ -60,21 +52,45 @@ fn cross_at(i: usize, j: usize, s: Word, x: &[Word], y: &[Word], z: &mut [Word],
     z[j] = crossed(z[j], s, x[i], y[j], x[j], y[i], words);
 }
 
-// The pairs (i, i+1), (i, i+2), .. of the AND.
-fn and_row(i: usize, x: &[Word], y: &[Word], z: &mut [Word], words: &[Word], at: usize) -> usize
-    requires { ⌜ (i < length (now x)) × (length (now y) ≡ length (now x)) × (length (now z) ≡ length (now x))
-        × (at + (length (now x) - (i + 1)) ≤ length (now words)) ⌝ }
-    ensures { λ r. ⌜ (pass (cross (now (x .entry)) (now (y .entry)))
-        (along (length (now (x .entry)) - (i + 1)) i (i + 1)) (now (z .entry)) (now (words .entry)) at
-        ≡ (now (z .exit), r)) × (r ≡ at + (length (now (x .entry)) - (i + 1))) ⌝ }
+// The pairs (i, i+1), (i, i+2), .. of the AND of n shares.
+fn and_row(
+    n: usize,
+    i: usize,
+    x: &[Word],
+    y: &[Word],
+    z: &mut [Word],
+    words: &[Word],
+    at: usize,
+) -> usize
+    requires { ⌜ (i < n) × (length (now x) ≡ n) × (length (now y) ≡ n) × (length (now z) ≡ n)
+        × (at + (n - (i + 1)) ≤ length (now words)) ⌝ }
+    ensures { λ r. ⌜ (pass (cross (now (x .entry)) (now (y .entry))) (along (n - (i + 1)) i (i + 1)) (now (z .entry))
+        (now (words .entry)) at ≡ (now (z .exit), r)) × (r ≡ at + (n - (i + 1))) ⌝ }
 {
     let mut p = at;
     let mut j = i + 1;
-    while j < x.len() {
+    while j < n {
         let s = draw_at(words, p);
         cross_at(i, j, s.word, x, y, z, words);
         p = s.at;
         j += 1;
+    }
+    p
+}
+
+// AND of n shares. The count is handed down all the way, so that one constant at the top is seen by every loop.
+fn and_of(n: usize, x: &[Word], y: &[Word], z: &mut [Word], words: &[Word], at: usize) -> usize
+    requires { ⌜ (length (now x) ≡ n) × (length (now y) ≡ n) × (length (now z) ≡ n)
+        × (at + andDraws n ≤ length (now words)) ⌝ }
+    ensures { λ r. ⌜ (and (now (x .entry)) (now (y .entry)) (now (words .entry)) at ≡ (now (z .exit), r))
+        × (r ≡ at + andDraws n) ⌝ }
+{
+    and_each(n, x, y, z);
+    let mut p = at;
+    let mut i = 0;
+    while i < n {
+        p = and_row(n, i, x, y, z, words, p);
+        i += 1;
     }
     p
 }
@@ -86,14 +102,7 @@ pub fn and_at(x: &[Word], y: &[Word], z: &mut [Word], words: &[Word], at: usize)
     ensures { λ r. ⌜ (and (now (x .entry)) (now (y .entry)) (now (words .entry)) at ≡ (now (z .exit), r))
         × (r ≡ at + andDraws (length (now (x .entry)))) ⌝ }
 {
-    and_each(x, y, z);
-    let mut p = at;
-    let mut i = 0;
-    while i < x.len() {
-        p = and_row(i, x, y, z, words, p);
-        i += 1;
-    }
-    p
+    and_of(x.len(), x, y, z, words, at)
 }
 
 // One round of the carry loop, of n shares: u = 2(AND(u, a) ⊕ w).
@@ -105,8 +114,8 @@ fn carry_round(n: usize, a: &[Word], w: &[Word], u: &mut [Word], words: &[Word],
 {
     let mut t0: [Word; LARGEST] = [0; LARGEST];
     let t = &mut t0[0..n];
-    let p = and_at(u, a, t, words, at);
-    double_xor_each(t, w, u);
+    let p = and_of(n, u, a, t, words, at);
+    double_xor_each(n, t, w, u);
     p
 }
 
@@ -126,33 +135,67 @@ fn carry_at(n: usize, a: &[Word], w: &[Word], u: &mut [Word], words: &[Word], at
     p
 }
 
-// The sum, from a = x XOR y and w = x AND y: a XOR what the carry loop makes of zeros.
-fn carried_at(n: usize, a: &[Word], w: &[Word], z: &mut [Word], words: &[Word], at: usize) -> usize
-    requires { ⌜ (length (now a) ≡ n) × (length (now w) ≡ n) × (length (now z) ≡ n) × (n ≤ largest)
-        × (at + (bits - 1) * andDraws n ≤ length (now words)) ⌝ }
-    ensures { λ r. ⌜ (carried bits n (now (a .entry)) (now (w .entry)) (now (words .entry)) at ≡ (now (z .exit), r))
-        × (r ≡ at + (bits - 1) * andDraws n) ⌝ }
+// x becomes x + y, n shares.
+fn add_of(n: usize, x: &mut [Word], y: &[Word], words: &[Word], at: usize) -> usize
+    requires { ⌜ (length (now x) ≡ n) × (length (now y) ≡ n) × (n ≤ largest)
+        × (at + addDraws bits n ≤ length (now words)) ⌝ }
+    ensures { λ r. ⌜ (add bits (now (x .entry)) (now (y .entry)) (now (words .entry)) at ≡ (now (x .exit), r))
+        × (r ≡ at + addDraws bits n) ⌝ }
 {
+    let mut w0: [Word; LARGEST] = [0; LARGEST];
+    let mut a0: [Word; LARGEST] = [0; LARGEST];
     let mut u0: [Word; LARGEST] = [0; LARGEST];
+    let w = &mut w0[0..n];
+    let a = &mut a0[0..n];
     let u = &mut u0[0..n];
-    let p = carry_at(n, a, w, u, words, at);
-    xor_each(a, u, z);
-    p
+    let p = and_of(n, x, y, w, words, at);
+    xor_each(x, y, a);
+    let q = carry_at(n, a, w, u, words, p);
+    xor_each(a, u, x);
+    q
 }
 
-// Addition, from the word at `at` on; the place after. Every sum of shares in the library is this one.
+// The same at the largest count.
+fn add_largest(x: &mut [Word], y: &[Word], words: &[Word], at: usize) -> usize
+    requires { ⌜ (length (now x) ≡ largest) × (length (now y) ≡ largest)
+        × (at + addDraws bits largest ≤ length (now words)) ⌝ }
+    ensures { λ r. ⌜ (add bits (now (x .entry)) (now (y .entry)) (now (words .entry)) at ≡ (now (x .exit), r))
+        × (r ≡ at + addDraws bits largest) ⌝ }
+{
+    let mut w: [Word; LARGEST] = [0; LARGEST];
+    let mut a: [Word; LARGEST] = [0; LARGEST];
+    let mut u: [Word; LARGEST] = [0; LARGEST];
+    let p = and_of(LARGEST, x, y, &mut w, words, at);
+    xor_each(x, y, &mut a);
+    let q = carry_at(LARGEST, &a, &w, &mut u, words, p);
+    xor_each(&a, &u, x);
+    q
+}
+
+// x becomes x + y, from the word at `at` on; the place after. Every sum of shares in the library is this one.
+pub fn add_in(x: &mut [Word], y: &[Word], words: &[Word], at: usize) -> usize
+    requires { ⌜ (length (now y) ≡ length (now x)) × (length (now x) ≤ largest)
+        × (at + addDraws bits (length (now x)) ≤ length (now words)) ⌝ }
+    ensures { λ r. ⌜ (add bits (now (x .entry)) (now (y .entry)) (now (words .entry)) at ≡ (now (x .exit), r))
+        × (r ≡ at + addDraws bits (length (now (x .entry)))) ⌝ }
+{
+    let n = x.len();
+    if is_few(n) {
+        return few::add_in(x, y, words, at);
+    }
+    if n == LARGEST {
+        return add_largest(x, y, words, at);
+    }
+    add_of(n, x, y, words, at)
+}
+
+// The same, into z.
 pub fn add_at(x: &[Word], y: &[Word], z: &mut [Word], words: &[Word], at: usize) -> usize
     requires { ⌜ (length (now y) ≡ length (now x)) × (length (now z) ≡ length (now x)) × (length (now x) ≤ largest)
         × (at + addDraws bits (length (now x)) ≤ length (now words)) ⌝ }
     ensures { λ r. ⌜ (add bits (now (x .entry)) (now (y .entry)) (now (words .entry)) at ≡ (now (z .exit), r))
         × (r ≡ at + addDraws bits (length (now (x .entry)))) ⌝ }
 {
-    let n = x.len();
-    let mut w0: [Word; LARGEST] = [0; LARGEST];
-    let mut a0: [Word; LARGEST] = [0; LARGEST];
-    let w = &mut w0[0..n];
-    let a = &mut a0[0..n];
-    let p = and_at(x, y, w, words, at);
-    xor_each(x, y, a);
-    carried_at(n, a, w, z, words, p)
+    copy(x, z);
+    add_in(z, y, words, at)
 }

@@ -2,7 +2,6 @@
 use Prim.Native.Nat.{ℕ, zero, suc, _+_, _-_, _*_, _≤_, _<_}
 use mathlib.Core.Path.{_≡_, refl, sym, ap, _∙_}
 use mathlib.Core.List.{List, [], _∷_}
-use native.Mathlib.Nat.{sub-zero}
 use native.Mathlib.Omega.{arith}
 use lib.Bits.{bitXor, bitAnd}
 use lib.ListN.{length, getD, set, take, replicate}
@@ -12,7 +11,7 @@ use Rattle.words.proofs.Words.{xor-swap, shift-xor}
 use Rattle.rules.specs.Shares.{each, pass, along, order, cross, and, doubleXor, carries, add}
 use Rattle.rules.specs.Counts.{andDraws, addDraws}
 use Rattle.width.specs.Width.{bits}
-use Rattle.rules.proofs.Loops.{order-next, carries-one, add-made}
+use Rattle.rules.proofs.Loops.{order-begins, order-next, carries-one, add-made}
 use Rattle.few.specs.declared.Few.{Few}
 use Rattle.few.specs.declared.Pair.{Pair}
 use Rattle.few.specs.Shares.{IsFew, firsts, Crosses, firstRow, otherRows}
@@ -159,9 +158,7 @@ unfolding and firstRow otherRows
 and-made n x y z t ws at p q few first others =
     let u = firsts n x in
     let v = firsts n y in
-    let size = length-firsts n x (omega arith) in
-    let whole : pass (cross u v) (order (n - 0) 0) (each bitAnd u v) ws at ≡ and u v ws at =
-    rw (sub-zero n, size) in
+    let whole = order-begins n u v (each bitAnd u v) ws at (length-firsts n x (omega arith)) refl in
     sym (order-next (cross u v) ws (each bitAnd u v) (firsts n z) at p n 0 (and u v ws at) (omega arith) first whole)
     ∙ others
 
@@ -254,9 +251,8 @@ pub sum-made : (k n : ℕ) (x y z w a u s : Few) (ws : List ℕ) (at p q r : ℕ
     → ((m : ℕ) → firsts m s ≡ each bitXor (firsts m a) (firsts m u))
     → add k (firsts n x) (firsts n y) ws at ≡ (firsts n s, r)
 sum-made k n x y z w a u s ws at p q r few first others xored carried last =
-    add-made k ws (firsts n x) (firsts n y) (firsts n w) (firsts n a) (replicate n 0) (firsts n u) (firsts n s) at q r
-    (and-made n x y z w ws at p q few first others) (xored n)
-    (ap (λ m. replicate m 0) (sym (length-firsts n x (omega arith)))) carried (last n)
+    add-made k n ws (firsts n x) (firsts n y) (firsts n w) (firsts n a) (replicate n 0) (firsts n u) (firsts n s) at q r
+    (length-firsts n x (omega arith)) (and-made n x y z w ws at p q few first others) (xored n) refl carried (last n)
 
 -- its words: those of an AND, then k − 1 times as many
 module _ (n at l : ℕ) (few : IsFew n) (room : at + addDraws bits n ≤ l) where

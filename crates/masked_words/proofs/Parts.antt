@@ -12,7 +12,6 @@ use Rattle.words.proofs.Stores.{take-sets, filled-next, filled-end}
 use Rattle.rules.specs.Shares.{each}
 use Rattle.rules.specs.Sha1.{word, public}
 use Rattle.rules.proofs.Bytes.{map-at}
-use Rattle.rules.proofs.Loops.{Run}
 use Rattle.masked_words.specs.Words.{firsts}
 
 -- ---- word: word w, as a part of a slice
@@ -77,10 +76,6 @@ module _ (f : ℕ → ℕ) (x z : List ℕ) (i : ℕ) (same : length z ≡ lengt
 
   pub mapped-end : length x ≤ i → take i z ≡ take i (map f x) → z ≡ map f x
   mapped-end h p = filled-end z (map f x) i (omega (arith, length-map x f)) (same ∙ sym (length-map x f)) p
-
--- ---- add_in: the sum copied
-pub copied : {r : Run} {z y : List ℕ} {p : ℕ} → r ≡ (z, p) → y ≡ z → r ≡ (y, p)
-copied e g = rw (e, g)
 
 -- ---- parity
 pub parity-made : (b c d x f : List ℕ) → x ≡ each bitXor b c → f ≡ each bitXor x d → f ≡ each bitXor (each bitXor b c) d

@@ -89,11 +89,7 @@ pub fn add_in(n: usize, x: &mut [u32], y: &[u32], words: &[u32], at: usize) -> u
     ensures { λ r. ⌜ (add 32 (now (x .entry)) (now (y .entry)) (now (words .entry)) at ≡ (now (x .exit), r))
         × (r ≡ at + 32 * andDraws n) ⌝ }
 {
-    let mut z0 = [0u32; LARGEST];
-    let z = &mut z0[0..n];
-    let p = adder::add_at(x, y, z, words, at);
-    shares::copy(z, x);
-    p
+    adder::add_in(x, y, words, at)
 }
 
 // The parity of three words: b XOR c XOR d.

@@ -45,11 +45,11 @@ module _ (step : Step) (ws z y : List ℕ) (at q s : ℕ) (e : Run) where
       let more : n - j ≡ suc (n - (j + 1)) = omega arith in
       rw (k, f, g) (rw more at p)
 
--- all pairs in order, from the diagonal on
-pub order-begins : (x y z ws : List ℕ) (at : ℕ) → z ≡ each bitAnd x y
-    → pass (cross x y) (order (length x - 0) 0) z ws at ≡ and x y ws at
+-- all pairs of n shares in order, from the diagonal on
+pub order-begins : (n : ℕ) (x y z ws : List ℕ) (at : ℕ) → length x ≡ n → z ≡ each bitAnd x y
+    → pass (cross x y) (order (n - 0) 0) z ws at ≡ and x y ws at
 unfolding and
-order-begins x y z ws at e = rw (sub-zero (length x), e)
+order-begins n x y z ws at h e = rw (sub-zero n, h, e)
 
 -- a row of the order, then the rest
 pub order-next : (step : Step) (ws z y : List ℕ) (at p n i : ℕ) (e : Run) → i < n
@@ -159,26 +159,37 @@ module _ (k : ℕ) (a w u ws : List ℕ) (at : ℕ) where
   carries-one t v p e f = ap (λ (r : Run). (each (doubleXor k) (r .0) w, r .1)) e ∙ ap (λ l. (l, p)) (sym f)
 
 -- AND, XOR, the carry loop from zeros and XOR, one after the other
-pub add-made : (k : ℕ) (ws x y w a u₀ u z : List ℕ) (at p q : ℕ) → and x y ws at ≡ (w, p) → a ≡ each bitXor x y
-    → u₀ ≡ replicate (length x) 0 → carries k a w (k - 1) u₀ ws p ≡ (u, q) → z ≡ each bitXor a u
-    → add k x y ws at ≡ (z, q)
+pub add-made : (k n : ℕ) (ws x y w a u₀ u z : List ℕ) (at p q : ℕ) → length x ≡ n
+    → and x y ws at ≡ (w, p) → a ≡ each bitXor x y → u₀ ≡ replicate n 0 → carries k a w (k - 1) u₀ ws p ≡ (u, q)
+    → z ≡ each bitXor a u → add k x y ws at ≡ (z, q)
 unfolding add
-add-made k ws x y w a u₀ u z at p q e f g h i = rw (e, ← f, ← g, h, i)
+add-made k n ws x y w a u₀ u z at p q l e f g h i = rw (e, ← f, l, ← g, h, i)
 
--- ---- by shares: up to place i, z has the rule's shares
-abbrev pub EachTo : (ℕ → ℕ → ℕ) → List ℕ → List ℕ → List ℕ → ℕ → Type 0
-EachTo f x y z i = (i ≤ length x) × (length z ≡ length x) × (take i z ≡ take i (each f x y))
+-- the sum of a copy
+module _ (k at : ℕ) (x z : List ℕ) (copied : z ≡ x) where
+  pub copied-sum : (y ws : List ℕ) (o : Run) → add k z y ws at ≡ o → add k x y ws at ≡ o
+  copied-sum y ws o h = rw copied at h
 
-module _ (f : ℕ → ℕ → ℕ) (x y z : List ℕ) (i : ℕ) (same : length y ≡ length x) (room : length z ≡ length x) where
-  pub each-next : i < length x → take i z ≡ take i (each f x y)
+  pub copied-place : (p : ℕ) → p ≡ at + addDraws k (length z) → p ≡ at + addDraws k (length x)
+  copied-place p h = rw copied at h
+
+-- ---- by shares, n of them: up to place i, z has the rule's shares
+abbrev pub EachTo : (ℕ → ℕ → ℕ) → ℕ → List ℕ → List ℕ → List ℕ → ℕ → Type 0
+EachTo f n x y z i = (i ≤ n) × (length z ≡ n) × (take i z ≡ take i (each f x y))
+
+module _ (f : ℕ → ℕ → ℕ) (n : ℕ) (x y z : List ℕ) (i : ℕ)
+    (left : length x ≡ n) (right : length y ≡ n) (room : length z ≡ n) where
+  rule-size : length z ≡ length (each f x y)
+  rule-size = room ∙ sym left ∙ sym (length-each f x y (right ∙ sym left))
+
+  pub each-next : i < n → take i z ≡ take i (each f x y)
       → take (i + 1) (set z i (f (getD x i 0) (getD y i 0))) ≡ take (i + 1) (each f x y)
   each-next h p =
-      filled-next z (each f x y) i _ (omega arith) (room ∙ sym (length-each f x y same))
-      (sym (each-at f x y same i h)) p
+      filled-next z (each f x y) i _ (omega arith) rule-size
+      (sym (each-at f x y (right ∙ sym left) i (omega arith))) p
 
-  pub each-end : length x ≤ i → take i z ≡ take i (each f x y) → z ≡ each f x y
-  each-end h p =
-      filled-end z (each f x y) i (omega (arith, length-each f x y same)) (room ∙ sym (length-each f x y same)) p
+  pub each-end : n ≤ i → take i z ≡ take i (each f x y) → z ≡ each f x y
+  each-end h p = filled-end z (each f x y) i (omega (arith, rule-size)) rule-size p
 
 -- ---- the next words, filled from the front
 next-at : (ws : List ℕ) (n at i : ℕ) → i < n → getD (next n ws at .0) i 0 ≡ getD ws (at + i) 0

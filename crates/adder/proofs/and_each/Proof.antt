@@ -2,17 +2,16 @@
 use borrow.Author.Needs.{needs}
 use Prim.Native.Nat.{_-_}
 use mathlib.Core.Path.{refl}
-use lib.ListN.{length}
 use lib.Bits.{bitAnd}
 use Rattle.rules.proofs.Loops.{EachTo, each-next, each-end}
 use Rattle.adder.proofs.and_each.Statement.{statement}
 use Rattle.adder.proofs.and_each.Tie as tie
 
 abbrev Inv-loop : tie.InvT-loop
-Inv-loop x y z₀ i₀ z i = EachTo bitAnd x y z i
+Inv-loop n x y z₀ i₀ z i = EachTo bitAnd n x y z i
 
 abbrev μ-loop : tie.MeasureT-loop
-μ-loop x y z₀ i₀ z i = length x - i
+μ-loop n x y z₀ i₀ z i = n - i
 
 loop-holds : tie.Need-loop-holds Inv-loop μ-loop
 loop-holds c = (search needs, search needs, refl)

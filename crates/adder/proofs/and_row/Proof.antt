@@ -9,13 +9,13 @@ use Rattle.adder.proofs.and_row.Statement.{statement}
 use Rattle.adder.proofs.and_row.Tie as tie
 
 abbrev Inv-loop : tie.InvT-loop
-Inv-loop i x y z₀ words at p₀ j₀ z p j =
-    let row = length x - (i + 1) in
-    (j ≤ length x) × (length z ≡ length x) × (p + (length x - j) ≡ at + row)
-    × (pass (cross x y) (along (length x - j) i j) z words p ≡ pass (cross x y) (along row i (i + 1)) z₀ words at)
+Inv-loop n i x y z₀ words at p₀ j₀ z p j =
+    let row = n - (i + 1) in
+    (j ≤ n) × (length z ≡ n) × (p + (n - j) ≡ at + row)
+    × (pass (cross x y) (along (n - j) i j) z words p ≡ pass (cross x y) (along row i (i + 1)) z₀ words at)
 
 abbrev μ-loop : tie.MeasureT-loop
-μ-loop i x y z₀ words at p₀ j₀ z p j = length x - j
+μ-loop n i x y z₀ words at p₀ j₀ z p j = n - j
 
 loop-holds : tie.Need-loop-holds Inv-loop μ-loop
 loop-holds c = (search needs, search needs, search needs, refl)

@@ -1,14 +1,11 @@
 -- one AND and one doubling are one round of the rule
 use borrow.Author.Needs.{needs}
-use Rattle.rules.proofs.Loops.{and-room, and-place, carries-one}
+use Rattle.rules.proofs.Loops.{carries-one}
 use Rattle.adder.proofs.carry_round.Statement.{statement}
 use Rattle.adder.proofs.carry_round.Tie as tie
 
-and-at-requires : tie.Need-and-at-requires
-and-at-requires c κs = (search needs, search needs, search and-room)
-
 returns : tie.Need-returns
-returns c = (search carries-one, search and-place)
+returns c = (search carries-one, search needs)
 
 pub carry-round-spec : {M : Type 1} → statement M
 carry-round-spec =
@@ -17,7 +14,7 @@ carry-round-spec =
     (λ c. search needs)
     (λ c. search needs)
     (λ c. search needs)
-    and-at-requires
+    (λ c κs. search needs)
     (λ c κs. search needs)
     (λ c. search needs)
     returns

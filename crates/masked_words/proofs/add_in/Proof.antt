@@ -1,25 +1,14 @@
--- the sum goes back into x by a copy
+-- the adder's sum, its words counted by n
 use borrow.Author.Needs.{needs}
 use Rattle.rules.proofs.Loops.{add-room, add-place}
-use Rattle.masked_words.proofs.Parts.{copied}
 use Rattle.masked_words.proofs.add_in.Statement.{statement}
 use Rattle.masked_words.proofs.add_in.Tie as tie
 
-add-at-requires : tie.Need-add-at-requires
-add-at-requires c κs = (search needs, search needs, search needs, search add-room)
+add-in-requires : tie.Need-add-in-requires
+add-in-requires c κs = (search needs, search needs, search add-room)
 
 returns : tie.Need-returns
-returns c = (search copied, search add-place)
+returns c = (search needs, search add-place)
 
 pub add-in-spec : {M : Type 1} → statement M
-add-in-spec =
-    tie.close
-    (tie.spec
-    (λ c. search needs)
-    (λ c. search needs)
-    (λ c. search needs)
-    add-at-requires
-    (λ c κs. search needs)
-    (λ c. search needs)
-    returns
-    )
+add-in-spec = tie.close (tie.spec add-in-requires (λ c. search needs) returns)

@@ -9,7 +9,7 @@ use Rattle.shares.proofs.xor_each.Statement.{statement}
 use Rattle.shares.proofs.xor_each.Tie as tie
 
 abbrev Inv-loop : tie.InvT-loop
-Inv-loop x y z₀ i₀ z i = EachTo bitXor x y z i
+Inv-loop x y z₀ i₀ z i = EachTo bitXor (length x) x y z i
 
 abbrev μ-loop : tie.MeasureT-loop
 μ-loop x y z₀ i₀ z i = length x - i

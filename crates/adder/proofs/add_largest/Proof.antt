@@ -1,0 +1,28 @@
+-- as for any count, with rooms that are lent whole
+use borrow.Author.Needs.{needs}
+use mathlib.Core.Path.{refl}
+use Rattle.rules.proofs.Loops.{add-made}
+use Rattle.adder.proofs.add_largest.Statement.{statement}
+use Rattle.adder.proofs.add_largest.Tie as tie
+
+returns : tie.Need-returns
+returns c = (search add-made, search needs)
+
+pub add-largest-spec : {M : Type 1} → statement M
+add-largest-spec =
+    tie.close
+    (tie.spec
+    (λ c. search needs)
+    (λ c κs. search needs)
+    (λ c. search needs)
+    (λ c κs. search needs)
+    (λ c. search needs)
+    (λ c. search needs)
+    (λ c. search needs)
+    (λ c κs. search needs)
+    (λ c. search needs)
+    (λ c. search needs)
+    (λ c κs. search needs)
+    (λ c. search needs)
+    returns
+    )
