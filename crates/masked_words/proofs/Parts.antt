@@ -5,11 +5,9 @@ use mathlib.Core.List.{List, [], _++_, map}
 use native.Mathlib.Nat.{suc-mul, mul-le-mul-right}
 use native.Mathlib.Numerals.{add-one}
 use native.Mathlib.Omega.{arith}
-use lib.Bits.{bitXor}
 use lib.ListN.{length, getD, set, take, drop, replicate, length-drop, length-map, replicate-append-replicate}
 use lib.Seq.{sets, length-take-le, take-all, take-suc-set}
 use Rattle.words.proofs.Stores.{take-sets, filled-next, filled-end}
-use Rattle.rules.specs.Shares.{each}
 use Rattle.rules.specs.Sha1.{word, public}
 use Rattle.rules.proofs.Bytes.{map-at}
 use Rattle.rules.proofs.Loops.{Run}
@@ -81,7 +79,3 @@ module _ (f : ℕ → ℕ) (x z : List ℕ) (i : ℕ) (same : length z ≡ lengt
 -- ---- add_in: the sum copied
 pub copied : {r : Run} {z y : List ℕ} {p : ℕ} → r ≡ (z, p) → y ≡ z → r ≡ (y, p)
 copied e g = rw (e, g)
-
--- ---- parity
-pub parity-made : (b c d x f : List ℕ) → x ≡ each bitXor b c → f ≡ each bitXor x d → f ≡ each bitXor (each bitXor b c) d
-parity-made b c d x f e g = rw (← e) g

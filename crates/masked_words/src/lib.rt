@@ -101,8 +101,9 @@ pub fn parity(n: usize, b: &[u32], c: &[u32], d: &[u32], f: &mut [u32])
     requires { ⌜ Masked n (now b ∷ now c ∷ now d ∷ now f ∷ []) ⌝ }
     ensures { λ _. ⌜ now (f .exit) ≡ each bitXor (each bitXor (now (b .entry)) (now (c .entry))) (now (d .entry)) ⌝ }
 {
-    let mut x0 = [0u32; LARGEST];
-    let x = &mut x0[0..n];
-    shares::xor_each(b, c, x);
-    shares::xor_each(x, d, f);
+    let mut i = 0;
+    while i < n {
+        f[i] = b[i] ^ c[i] ^ d[i];
+        i += 1;
+    }
 }

@@ -173,6 +173,22 @@ module _ (f : ℕ → ℕ → ℕ) (x y z : List ℕ) (i : ℕ) (same : length y
   each-end h p =
       filled-end z (each f x y) i (omega (arith, length-each f x y same)) (room ∙ sym (length-each f x y same)) p
 
+-- the same of three lists
+module _ (f : ℕ → ℕ → ℕ) (x y u z : List ℕ) (i n : ℕ)
+    (first : length x ≡ n) (same : length y ≡ n) (third : length u ≡ n) (room : length z ≡ n) where
+  size-two : length (each f x y) ≡ n
+  size-two = length-each f x y (same ∙ sym first) ∙ first
+
+  pub each-three-next : i < n → take i z ≡ take i (each f (each f x y) u)
+      → take (i + 1) (set z i (f (f (getD x i 0) (getD y i 0)) (getD u i 0))) ≡ take (i + 1) (each f (each f x y) u)
+  each-three-next h p =
+      rw (← each-at f x y (same ∙ sym first) i (omega arith))
+      (each-next f (each f x y) u z i (third ∙ sym size-two) (room ∙ sym size-two) (omega (arith, size-two)) p)
+
+  pub each-three-end : n ≤ i → take i z ≡ take i (each f (each f x y) u) → z ≡ each f (each f x y) u
+  each-three-end h p =
+      each-end f (each f x y) u z i (third ∙ sym size-two) (room ∙ sym size-two) (omega (arith, size-two)) p
+
 -- ---- the next words, filled from the front
 next-at : (ws : List ℕ) (n at i : ℕ) → i < n → getD (next n ws at .0) i 0 ≡ getD ws (at + i) 0
 unfolding next
