@@ -5,11 +5,9 @@ use mathlib.Core.List.{List, [], _++_, map}
 use native.Mathlib.Nat.{suc-mul, mul-le-mul-right}
 use native.Mathlib.Numerals.{add-one}
 use native.Mathlib.Omega.{arith}
-use lib.Bits.{bitXor}
 use lib.ListN.{length, getD, set, take, drop, replicate, length-drop, length-map, replicate-append-replicate}
 use lib.Seq.{sets, length-take-le, take-all, take-suc-set}
 use Rattle.words.proofs.Stores.{take-sets, filled-next, filled-end}
-use Rattle.rules.specs.Shares.{each}
 use Rattle.rules.specs.Sha1.{word, public}
 use Rattle.rules.proofs.Bytes.{map-at}
 use Rattle.masked_words.specs.Words.{firsts}
@@ -76,7 +74,3 @@ module _ (f : ℕ → ℕ) (x z : List ℕ) (i : ℕ) (same : length z ≡ lengt
 
   pub mapped-end : length x ≤ i → take i z ≡ take i (map f x) → z ≡ map f x
   mapped-end h p = filled-end z (map f x) i (omega (arith, length-map x f)) (same ∙ sym (length-map x f)) p
-
--- ---- parity
-pub parity-made : (b c d x f : List ℕ) → x ≡ each bitXor b c → f ≡ each bitXor x d → f ≡ each bitXor (each bitXor b c) d
-parity-made b c d x f e g = rw (← e) g

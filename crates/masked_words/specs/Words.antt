@@ -1,8 +1,8 @@
 -- Words in n shares: their sizes, and several of them, one after the other, as code fills them from the front.
 use Prim.Native.Nat.{ℕ, _*_, _≤_}
 use mathlib.Core.Path.{_≡_}
-use mathlib.Core.List.{List, [], _∷_}
-use lib.ListN.{length, take}
+use mathlib.Core.List.{List, [], _∷_, _++_}
+use lib.ListN.{length, take, drop}
 use Rattle.rules.specs.Numbers.{largest}
 
 -- each has n shares
@@ -17,3 +17,7 @@ Masked n xs = (n ≤ largest) × Sized n xs
 -- the first m words of several
 unfoldable pub firsts : ℕ → ℕ → List ℕ → List ℕ
 firsts n m s = take (m * n) s
+
+-- several words in a ring, from word r on round
+unfoldable pub turned : ℕ → ℕ → List ℕ → List ℕ
+turned n r s = drop (r * n) s ++ take (r * n) s

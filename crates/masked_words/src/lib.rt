@@ -2,13 +2,14 @@
 // Taking and storing one of them, and what SHA-1 does with whole words.
 ghost use mathlib.Core.Path.{_≡_};
 ghost use mathlib.Core.List.{[], _∷_, _++_};
-ghost use Prim.Native.Nat.{_+_, _*_, _≤_, _<_};
+ghost use Prim.Native.Nat.{_+_, _*_, _%_, _≤_, _<_};
 ghost use lib.Bits.{bitXor};
 ghost use lib.ListN.{length, replicate};
+ghost use lib.Seq.{sets};
 ghost use Rattle.rules.specs.Shares.{each, add};
 ghost use Rattle.rules.specs.Sha1.{word, public, rotl, rotated};
 ghost use Rattle.rules.specs.Counts.{andDraws};
-ghost use Rattle.masked_words.specs.Words.{Masked, firsts};
+ghost use Rattle.masked_words.specs.Words.{Masked, firsts, turned};
 use rules::LARGEST;
 
 // ---- places
@@ -31,12 +32,34 @@ pub fn put_word(n: usize, w: usize, x: &[u32], z: &mut [u32])
     shares::put(x, z, w * n);
 }
 
-// Word i of s becomes word w of z, after those before it.
-pub fn move_word(n: usize, i: usize, s: &[u32], w: usize, z: &mut [u32])
-    requires { ⌜ (i * n + n ≤ length (now s)) × (w * n + n ≤ length (now z)) ⌝ }
-    ensures { λ _. ⌜ firsts n (w + 1) (now (z .exit)) ≡ firsts n w (now (z .entry)) ++ word n i (now (s .entry)) ⌝ }
+// ---- a ring of m words, from word r on
+
+// The place of word i.
+fn turned_place(m: usize, r: usize, i: usize) -> usize
+    requires { ⌜ (r < m) × (i < m) ⌝ }
+    ensures { λ w. ⌜ w ≡ (r + i) % m ⌝ }
 {
-    put_word(n, w, word(s, n, i), z);
+    let left = m - r;
+    if i < left {
+        return r + i;
+    }
+    i - left
+}
+
+// Word i.
+pub fn turned_word(s: &[u32], n: usize, m: usize, r: usize, i: usize) -> &[u32]
+    requires { ⌜ (r < m) × (i < m) × (length (now s) ≡ m * n) ⌝ }
+    ensures { λ x. ⌜ (now x ≡ word n i (turned n r (now (s .entry)))) × (length (now x) ≡ n) ⌝ }
+{
+    word(s, n, turned_place(m, r, i))
+}
+
+// x becomes word i.
+pub fn put_turned(n: usize, m: usize, r: usize, i: usize, x: &[u32], s: &mut [u32])
+    requires { ⌜ (r < m) × (i < m) × (length (now x) ≡ n) × (length (now s) ≡ m * n) ⌝ }
+    ensures { λ _. ⌜ turned n r (now (s .exit)) ≡ sets (turned n r (now (s .entry))) (i * n) (now (x .entry)) ⌝ }
+{
+    shares::put(x, s, turned_place(m, r, i) * n);
 }
 
 // ---- one word
@@ -97,8 +120,9 @@ pub fn parity(n: usize, b: &[u32], c: &[u32], d: &[u32], f: &mut [u32])
     requires { ⌜ Masked n (now b ∷ now c ∷ now d ∷ now f ∷ []) ⌝ }
     ensures { λ _. ⌜ now (f .exit) ≡ each bitXor (each bitXor (now (b .entry)) (now (c .entry))) (now (d .entry)) ⌝ }
 {
-    let mut x0 = [0u32; LARGEST];
-    let x = &mut x0[0..n];
-    shares::xor_each(b, c, x);
-    shares::xor_each(x, d, f);
+    let mut i = 0;
+    while i < n {
+        f[i] = b[i] ^ c[i] ^ d[i];
+        i += 1;
+    }
 }

@@ -7,10 +7,11 @@ ghost use Rattle.rules.specs.Numbers.{largest};
 ghost use Rattle.rules.specs.Standard.{K};
 ghost use Rattle.rules.specs.Sha1.{word, public, blended, chosen};
 ghost use Rattle.rules.specs.Counts.{andDraws, quarterAnds};
-ghost use Rattle.masked_words.specs.Words.{Masked};
+ghost use Rattle.masked_words.specs.Words.{Masked, turned};
 use masked_words::parity;
 use masked_words::public;
-use masked_words::word;
+use masked_words::turned_word;
+use rules::CHAIN_WORDS;
 use rules::LARGEST;
 
 // d XOR (u AND v).
@@ -107,21 +108,28 @@ fn quarter(
     at
 }
 
-// The function of quarter q, of the words b, c and d of the state s.
-pub fn quarter_of(n: usize, q: usize, s: &[u32], f: &mut [u32], words: &[u32], at: usize) -> usize
-    requires { ⌜ (q < 4) × (n ≤ largest) × (length (now s) ≡ 5 * n) × (length (now f) ≡ n)
+// The function of quarter q, of the words b, c and d of the state s, which begins at word r.
+pub fn quarter_of(
+    n: usize,
+    q: usize,
+    r: usize,
+    s: &[u32],
+    f: &mut [u32],
+    words: &[u32],
+    at: usize,
+) -> usize
+    requires { ⌜ (q < 4) × (r < 5) × (n ≤ largest) × (length (now s) ≡ 5 * n) × (length (now f) ≡ n)
         × (at + quarterAnds q * andDraws n ≤ length (now words)) ⌝ }
-    ensures { λ r. ⌜ (chosen q (word n 1 (now (s .entry))) (word n 2 (now (s .entry))) (word n 3 (now (s .entry)))
-        (now (words .entry)) at
-        ≡ (now (f .exit), r))
-        × (r ≡ at + quarterAnds q * andDraws n) ⌝ }
+    ensures { λ p. ⌜ (let t = turned n r (now (s .entry)) in
+        chosen q (word n 1 t) (word n 2 t) (word n 3 t) (now (words .entry)) at ≡ (now (f .exit), p))
+        × (p ≡ at + quarterAnds q * andDraws n) ⌝ }
 {
     quarter(
         n,
         q,
-        word(s, n, 1),
-        word(s, n, 2),
-        word(s, n, 3),
+        turned_word(s, n, CHAIN_WORDS, r, 1),
+        turned_word(s, n, CHAIN_WORDS, r, 2),
+        turned_word(s, n, CHAIN_WORDS, r, 3),
         f,
         words,
         at,

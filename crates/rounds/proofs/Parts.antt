@@ -1,17 +1,18 @@
 -- The rounds of masked SHA-1, from the parts that the code works out one after the other.
-use Prim.Native.Nat.{ℕ, suc, _+_, _-_, _*_, _/_, _≤_, _<_}
+use Prim.Native.Nat.{ℕ, suc, _+_, _-_, _*_, _/_, _%_, _≤_, _<_}
 use mathlib.Core.Path.{_≡_, sym, ap, _∙_}
 use mathlib.Core.List.{List, _++_, append-assoc}
 use native.Mathlib.Nat.{add-mul}
 use native.Mathlib.Omega.{arith}
-use lib.ListN.{length}
+use lib.ListN.{length, take, drop, length-append, length-map}
+use lib.Seq.{sets, length-take-le, length-sets, take-append-add, take-add, drop-drop, sets-eq}
 use Rattle.rules.specs.Convert.{Adder}
 use Rattle.rules.specs.Standard.{K}
-use Rattle.rules.specs.Sha1.{word, public, rotated, chosen, summed, temp, moved, round, rounds}
+use Rattle.rules.specs.Sha1.{word, public, rotl, rotated, chosen, summed, temp, moved, round, rounds}
 use Rattle.rules.specs.Counts.{quarterAnds, roundsAnds}
-use Rattle.masked_words.specs.Words.{firsts}
+use Rattle.masked_words.specs.Words.{firsts, turned}
 use Rattle.rules.proofs.Loops.{Run}
-use Rattle.masked_words.proofs.Parts.{firsts-none, firsts-all}
+use Rattle.masked_words.proofs.Turned.{turned-none, turned-turned, turned-last, length-turned}
 
 -- ---- sum_in, sum_of, temp_at: the sum of a round, in the rule's order
 module _ (ws : List ℕ) (at : ℕ) where
@@ -31,47 +32,62 @@ module _ (ws : List ℕ) (at : ℕ) where
   unfolding temp
   temp-made k add n q w s f a t p o g x h l = rw (g, ← x, ← h) l
 
--- ---- arrange: five words, each stored after those before it
-pub arranged : (n : ℕ) (t b s z z₁ z₂ z₃ z₄ z₅ : List ℕ)
-    → firsts n 1 z₁ ≡ firsts n 0 z ++ t
-    → firsts n 2 z₂ ≡ firsts n 1 z₁ ++ word n 0 s
-    → firsts n 3 z₃ ≡ firsts n 2 z₂ ++ b
-    → firsts n 4 z₄ ≡ firsts n 3 z₃ ++ word n 2 s
-    → firsts n 5 z₅ ≡ firsts n 4 z₄ ++ word n 3 s
-    → firsts n 5 z₅ ≡ t ++ (word n 0 s ++ (b ++ (word n 2 s ++ word n 3 s)))
-arranged n t b s z z₁ z₂ z₃ z₄ z₅ g h i j l = rw (l, j, i, h, g, firsts-none n z) (simp append-assoc)
+-- ---- move_on: b rotated in its place, and t over e, where the state then begins
+four-words : (n : ℕ) (s b : List ℕ) → length s ≡ 5 * n → length b ≡ n
+    → firsts n 4 (sets s (1 * n) b) ≡ word n 0 s ++ (b ++ (word n 2 s ++ word n 3 s))
+unfolding firsts word
+four-words n s b e f =
+    let a = take n s ++ b in
+    let size : length a ≡ n + n = length-append (take n s) b ∙ omega (arith, length-take-le n s (omega arith)) in
+    let none : 0 * n ≡ 0 = omega arith in
+    let one : 1 * n ≡ n = omega arith in
+    let two : 2 * n ≡ n + n = omega arith in
+    let three : 3 * n ≡ n + n + n = omega arith in
+    let four : 4 * n ≡ length a + (n + n) = omega arith in
+    rw (one, sets-eq b s n (omega arith), f, four, take-append-add a (drop (n + n) s) (n + n))
+    (rw (take-add n n (drop (n + n) s), drop-drop n (n + n) s, none, two, three)
+    (append-assoc (take n s) b _))
 
--- ---- move_at: they are all of the state
-module _ (k n : ℕ) (t s z : List ℕ) where
-  pub moved-made : (a b : List ℕ) → a ≡ word n 1 s → b ≡ rotated k 30 a
-      → firsts n 5 z ≡ t ++ (word n 0 s ++ (b ++ (word n 2 s ++ word n 3 s))) → firsts n 5 z ≡ moved k n t s
-  unfolding moved
-  moved-made a b e g h = rw (← e, ← g) h
+pub moved-made : (k n r : ℕ) (s s₁ s₂ t a b : List ℕ) → a ≡ word n 1 (turned n r s) → b ≡ rotated k 30 a
+    → turned n r s₁ ≡ sets (turned n r s) (1 * n) b → turned n r s₂ ≡ sets (turned n r s₁) (4 * n) t
+    → r < 5 → length s ≡ 5 * n → length t ≡ n → length a ≡ n
+    → turned n ((r + 4) % 5) s₂ ≡ moved k n t (turned n r s)
+unfolding moved
+moved-made k n r s s₁ s₂ t a b e f g i h size lt la =
+    let whole : length (turned n r s) ≡ 5 * n = length-turned n r s ∙ size in
+    let lb : length b ≡ n = ap length f ∙ length-map a (rotl k 30) ∙ la in
+    let size₁ : length (turned n r s₁) ≡ 5 * n = ap length g ∙ length-sets (turned n r s) (1 * n) b ∙ whole in
+    let size₂ : length s₂ ≡ 5 * n =
+    sym (length-turned n r s₂) ∙ ap length i ∙ length-sets (turned n r s₁) (4 * n) t ∙ size₁ in
+    sym (turned-turned n 5 r 4 s₂ size₂ h (omega arith)) ∙ ap (turned n 4) i
+    ∙ turned-last n 4 (turned n r s₁) t (omega arith) lt
+    ∙ rw (g, four-words n (turned n r s) b whole lb, f, e)
 
-  pub moved-all : length z ≡ 5 * n → firsts n 5 z ≡ moved k n t s → z ≡ moved k n t s
-  moved-all e g = sym (firsts-all n 5 z e) ∙ g
-
--- ---- round_at: the sum, and the words moved on
-pub round-made : (k : ℕ) (add : Adder) (n q : ℕ) (w s t z r ws : List ℕ) (at p : ℕ)
-    → temp k add n q w s ws at ≡ (t, p) → z ≡ moved k n t s → r ≡ z → round k add n q w s ws at ≡ (r, p)
+-- ---- round_at: the sum, and the state moved on
+pub round-made : (k : ℕ) (add : Adder) (n q : ℕ) (w s t z ws : List ℕ) (at p : ℕ)
+    → temp k add n q w s ws at ≡ (t, p) → z ≡ moved k n t s → round k add n q w s ws at ≡ (z, p)
 unfolding round
-round-made k add n q w s t z r ws at p e g h = rw (e, h, g)
+round-made k add n q w s t z ws at p e g = rw (e, g)
 
--- ---- rounds_at: the rounds from round t on, of m in all
+-- ---- rounds_at: the rounds from round t on, of m in all, each beginning the state one word lower
 left-one : (m t : ℕ) → t < m → m - t ≡ suc (m - (t + 1))
 left-one m t h = omega arith
 
 module _ (k : ℕ) (add : Adder) (n m t : ℕ) (W ws s : List ℕ) (at : ℕ) (o : Run) where
-  pub rounds-next : (w r : List ℕ) (p : ℕ) → t < m → w ≡ word n t W → round k add n (t / 20) w s ws at ≡ (r, p)
-      → rounds k add n W (m - t) t s ws at ≡ o → rounds k add n W (m - (t + 1)) (t + 1) r ws p ≡ o
+  pub rounds-next : (w s′ : List ℕ) (p : ℕ) → rounds k add n W (m - t) t (turned n ((m - t) % 5) s) ws at ≡ o → t < m
+      → w ≡ word n t W
+      → round k add n (t / 20) w (turned n ((m - t) % 5) s) ws at ≡ (turned n (((m - t) % 5 + 4) % 5) s′, p)
+      → rounds k add n W (m - (t + 1)) (t + 1) (turned n ((m - (t + 1)) % 5) s′) ws p ≡ o
   unfolding rounds
-  rounds-next w r p h e g inv =
-      sym (ap (λ (x : Run). rounds k add n W (m - (t + 1)) (t + 1) (x .0) ws (x .1)) (rw e at g))
-      ∙ rw (left-one m t h) at inv
+  rounds-next w s′ p inv h e g =
+      let lower : ((m - t) % 5 + 4) % 5 ≡ (m - (t + 1)) % 5 = omega arith in
+      let more = left-one m t h in
+      sym (ap (λ (x : Run). rounds k add n W (m - (t + 1)) (t + 1) (x .0) ws (x .1)) (rw (e, lower, more) at g))
+      ∙ rw more at inv
 
-  pub rounds-end : m ≤ t → rounds k add n W (m - t) t s ws at ≡ o → o ≡ (s, at)
+  pub rounds-end : rounds k add n W (m - t) t (turned n ((m - t) % 5) s) ws at ≡ o → m ≤ t → o ≡ (s, at)
   unfolding rounds
-  rounds-end h inv = let none : m - t ≡ 0 = omega arith in sym (rw none at inv)
+  rounds-end inv h = let none : m - t ≡ 0 = omega arith in sym (rw (none, turned-none n s) at inv)
 
 -- how many words they draw, d to an AND and 32 ANDs to an addition
 module _ (m t d : ℕ) where

@@ -191,6 +191,20 @@ module _ (f : ℕ → ℕ → ℕ) (n : ℕ) (x y z : List ℕ) (i : ℕ)
   pub each-end : n ≤ i → take i z ≡ take i (each f x y) → z ≡ each f x y
   each-end h p = filled-end z (each f x y) i (omega (arith, rule-size)) rule-size p
 
+-- the same of three lists
+module _ (f : ℕ → ℕ → ℕ) (x y u z : List ℕ) (i n : ℕ)
+    (left : length x ≡ n) (right : length y ≡ n) (third : length u ≡ n) (room : length z ≡ n) where
+  size-two : length (each f x y) ≡ n
+  size-two = length-each f x y (right ∙ sym left) ∙ left
+
+  pub each-three-next : i < n → take i z ≡ take i (each f (each f x y) u)
+      → take (i + 1) (set z i (f (f (getD x i 0) (getD y i 0)) (getD u i 0))) ≡ take (i + 1) (each f (each f x y) u)
+  each-three-next h p =
+      rw (← each-at f x y (right ∙ sym left) i (omega arith)) (each-next f n (each f x y) u z i size-two third room h p)
+
+  pub each-three-end : n ≤ i → take i z ≡ take i (each f (each f x y) u) → z ≡ each f (each f x y) u
+  each-three-end h p = each-end f n (each f x y) u z i size-two third room h p
+
 -- ---- the next words, filled from the front
 next-at : (ws : List ℕ) (n at i : ℕ) → i < n → getD (next n ws at .0) i 0 ≡ getD ws (at + i) 0
 unfolding next

@@ -1,4 +1,4 @@
--- the sum of a round, then the words moved on, are one round of the rule
+-- the sum of a round, then the state moved on, are one round of the rule
 use borrow.Author.Needs.{needs}
 use Rattle.rounds.proofs.Parts.{round-made}
 use Rattle.rounds.proofs.round_at.Statement.{statement}
@@ -14,10 +14,6 @@ round-at-spec =
     (λ c. search needs)
     (λ c. search needs)
     (λ c. search needs)
-    (λ c. search needs)
-    (λ c. search needs)
-    (λ c. search needs)
-    (λ c κs. search needs)
     (λ c κs. search needs)
     (λ c κs. search needs)
     (λ c. search needs)
