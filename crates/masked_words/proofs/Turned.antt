@@ -6,7 +6,8 @@ use native.Mathlib.Nat.{mul-le-mul-right, mod-lt, mod-self, mod-eq-of-lt, mod-eq
 use native.Mathlib.Decide.{decLt}
 use native.Mathlib.Omega.{arith}
 use lib.ListN.{length, take, drop, length-append, length-drop, take-append-drop, drop-of-length-le}
-use lib.Seq.{sets, length-take-le, length-sets, take-at, drop-at, take-append-le, drop-append-le, drop-drop, sets-eq}
+use lib.Seq.{sets, sets-eq, length-sets, length-take-le, take-at, drop-at, take-add, take-take, drop-drop}
+use lib.Seq.{take-append-le, drop-append-le, take-append-add, drop-append-add}
 use Rattle.rules.specs.Sha1.{word}
 use Rattle.masked_words.specs.Words.{firsts, turned}
 
@@ -20,61 +21,44 @@ module _ (m r i : ℕ) (h : r < m) where
       let over : i - (m - r) ≡ r + i - m = omega arith in
       over ∙ sym (mod-eq-sub-mod {n = r + i} {m = m} (omega arith) ∙ mod-eq-of-lt (omega arith))
 
--- ---- r words on, then i more
+-- ---- r words on, then i more: within the end of the ring, or past it
+module _ (n m r i : ℕ) (s : List ℕ) (size : length s ≡ m * n) (h : r < m) where
+  front : length (take (r * n) s) ≡ r * n
+  front = length-take-le (r * n) s (omega (arith, mul-le-mul-right n h))
 
--- a front of r words comes behind the rest
-turned-append : (n r : ℕ) (x y : List ℕ) → length x ≡ r * n → turned n r (x ++ y) ≡ y ++ x
-unfolding turned
-turned-append n r x y e = rw (drop-at x y (r * n) e, take-at x y (r * n) e)
+  back : length (drop (r * n) s) ≡ m * n - r * n
+  back = length-drop (r * n) s ∙ omega arith
 
--- of three parts: within the end of the ring, or past it
-module _ (n r i : ℕ) (x y z : List ℕ) where
-  turned-within : length x ≡ r * n → length y ≡ i * n
-      → turned n i (turned n r (x ++ (y ++ z))) ≡ turned n (r + i) (x ++ (y ++ z))
-  turned-within e f =
-      let both : length (x ++ y) ≡ (r + i) * n = length-append x y ∙ omega arith in
-      rw (turned-append n r x (y ++ z) e, append-assoc y z x, turned-append n i y (z ++ x) f)
-      (rw (← append-assoc x y z, turned-append n (r + i) (x ++ y) z both) (append-assoc z x y))
+  turned-within : r + i ≤ m → turned n i (turned n r s) ≡ turned n (r + i) s
+  unfolding turned
+  turned-within l =
+      let x = take (r * n) s in
+      let y = drop (r * n) s in
+      let room : i * n ≤ length y = omega (arith, back, mul-le-mul-right n l) in
+      let both : (r + i) * n ≡ r * n + i * n = omega arith in
+      rw (drop-append-le (i * n) y x room, take-append-le (i * n) y x room)
+      (rw (both, ← drop-drop (i * n) (r * n) s, take-add (r * n) (i * n) s)
+      (append-assoc (drop (i * n) y) x (take (i * n) y)))
 
-  turned-past : (d : ℕ) → length x ≡ d * n → length x + length y ≡ r * n → length z + length x ≡ i * n
-      → turned n i (turned n r (x ++ (y ++ z))) ≡ turned n d (x ++ (y ++ z))
-  turned-past d e f g =
-      let front : length (x ++ y) ≡ r * n = length-append x y ∙ f in
-      let back : length (z ++ x) ≡ i * n = length-append z x ∙ g in
-      rw (turned-append n d x (y ++ z) e)
-      (rw (← append-assoc x y z, turned-append n r (x ++ y) z front)
-      (rw (← append-assoc z x y, turned-append n i (z ++ x) y back) (sym (append-assoc y z x))))
+  turned-past : (d : ℕ) → d + m ≡ r + i → i ≤ m → turned n i (turned n r s) ≡ turned n d s
+  unfolding turned
+  turned-past d e l =
+      let x = take (r * n) s in
+      let y = drop (r * n) s in
+      let all : (d + m) * n ≡ (r + i) * n = ap (λ k. k * n) e in
+      let room : d * n ≤ r * n = mul-le-mul-right n (omega arith) in
+      let over : i * n ≡ length y + d * n = omega (arith, back, mul-le-mul-right n h) in
+      let behind : drop (d * n) s ≡ drop (d * n) x ++ y =
+      ap (drop (d * n)) (sym (take-append-drop (r * n) s)) ∙ drop-append-le (d * n) x y (omega (arith, front)) in
+      rw (over, drop-append-add y x (d * n), take-append-add y x (d * n), behind, ← take-take (d * n) (r * n) s room)
+      (sym (append-assoc (drop (d * n) x) y (take (d * n) x)))
 
--- three parts of a list, by their lengths
-parted : (P : List ℕ → Type 0) (a b : ℕ) (s : List ℕ) → a + b ≤ length s
-    → ((x y z : List ℕ) → length x ≡ a → length y ≡ b → a + b + length z ≡ length s → P (x ++ (y ++ z))) → P s
-parted P a b s h f =
-    rw (take-append-drop b (drop a s), take-append-drop a s) at
-    (f (take a s) (take b (drop a s)) (drop b (drop a s)) (length-take-le a s (omega arith))
-    (length-take-le b (drop a s) (omega (arith, length-drop a s)))
-    (omega (arith, length-drop a s, length-drop b (drop a s))))
-
-module _ (n m r i : ℕ) (s : List ℕ) (size : length s ≡ m * n) (h : r < m) (l : i ≤ m) where
-  pub turned-turned : turned n i (turned n r s) ≡ turned n ((r + i) % m) s
-  turned-turned = go (decLt i (m - r))
+  pub turned-turned : i ≤ m → turned n i (turned n r s) ≡ turned n ((r + i) % m) s
+  turned-turned l = go (decLt i (m - r))
     where
-      Goal : ℕ → List ℕ → Type 0
-      Goal w s = turned n i (turned n r s) ≡ turned n w s
-
-      past : (d : ℕ) → d + m ≡ r + i → Goal d s
-      past d e =
-          let all : (d + m) * n ≡ (r + i) * n = ap (λ k. k * n) e in
-          let front : d * n ≤ r * n = mul-le-mul-right n (omega arith) in
-          parted (Goal d) (d * n) (r * n - d * n) s (omega (arith, mul-le-mul-right n h))
-          (λ x y z f g k. turned-past n r i x y z d f (omega arith) (omega arith))
-
-      go : Dec (i < m - r) → Goal ((r + i) % m) s
-      go (yes p) =
-          let fits : r + i ≤ m = omega arith in
-          rw (← place-within m r i h p)
-          (parted (Goal (r + i)) (r * n) (i * n) s (omega (arith, mul-le-mul-right n fits))
-          (λ x y z e f g. turned-within n r i x y z e f))
-      go (no p) = rw (← place-past m r i h l (omega arith)) (past (i - (m - r)) (omega arith))
+      go : Dec (i < m - r) → turned n i (turned n r s) ≡ turned n ((r + i) % m) s
+      go (yes p) = rw (← place-within m r i h p) (turned-within (omega arith))
+      go (no p) = rw (← place-past m r i h l (omega arith)) (turned-past (i - (m - r)) (omega arith) l)
 
 -- ---- m words, as they stand from word i on
 pub turned-none : (n : ℕ) (s : List ℕ) → turned n 0 s ≡ s
@@ -87,6 +71,11 @@ length-turned n r s =
     let a = take (r * n) s in
     let b = drop (r * n) s in
     omega (arith, ap length (take-append-drop (r * n) s), length-append a b, length-append b a)
+
+-- a front of r words comes behind the rest
+turned-append : (n r : ℕ) (x y : List ℕ) → length x ≡ r * n → turned n r (x ++ y) ≡ y ++ x
+unfolding turned
+turned-append n r x y e = rw (drop-at x y (r * n) e, take-at x y (r * n) e)
 
 module _ (n m i : ℕ) (h : i < m) where
   -- the front is word i

@@ -85,7 +85,7 @@ pub fn public(n: usize, v: u32, z: &mut [u32])
 }
 
 // The rotation of one share to the left.
-fn rotate_share(x: u32, r: u32) -> u32
+pub fn rotate_share(x: u32, r: u32) -> u32
     requires { ⌜ (0 < r) × (r < 32) ⌝ }
     ensures { λ v. ⌜ v ≡ rotl 32 r x ⌝ }
 {

@@ -5,13 +5,14 @@ use mathlib.Core.List.{List, [], _∷_, _++_}
 use native.Mathlib.Nat.{add-mul, zero-add, mul-le-mul-right}
 use native.Mathlib.Omega.{arith}
 use lib.Bits.{bitXor}
-use lib.ListN.{length, take, drop}
+use lib.ListN.{length, getD, set, take, drop}
 use lib.Seq.{sets, length-take-le, take-take, take-nil}
 use Rattle.words.proofs.Stores.{take-sets}
 use Rattle.rules.specs.Shares.{each}
-use Rattle.rules.specs.Sha1.{word, rotated, ago, following, schedule}
+use Rattle.rules.specs.Sha1.{word, rotl, rotated, ago, following, schedule}
+use Rattle.rules.proofs.Openings.{length-each, each-at}
 use Rattle.masked_words.specs.Words.{firsts}
-use Rattle.masked_words.proofs.Parts.{firsts-all}
+use Rattle.masked_words.proofs.Parts.{firsts-all, mapped-next, mapped-end}
 
 -- ---- ago: the word j before the end of the first t words
 parts : (n t j : ℕ) → j ≤ t → t * n ≡ (t - j) * n + j * n
@@ -41,12 +42,44 @@ ago-word n t j u x one h room e =
     drop-take (suc a) b zero (x ∷ u) e = absurd (omega arith)
     drop-take (suc a) b (suc c) (x ∷ u) e = drop-take a b c u (omega arith)
 
--- ---- following_at: four words, combined and rotated
-pub following-made : (k n : ℕ) (W a b c d x y z : List ℕ)
+-- ---- mixed: four words, combined and rotated, up to share i and at the end of all
+module _ (k n : ℕ) (a b c d z : List ℕ) (i : ℕ)
+    (la : length a ≡ n) (lb : length b ≡ n) (lc : length c ≡ n) (ld : length d ≡ n) (lz : length z ≡ n) where
+  each-size : (x y : List ℕ) → length x ≡ n → length y ≡ n → length (each bitXor x y) ≡ n
+  each-size x y e f = length-each bitXor x y (f ∙ sym e) ∙ e
+
+  each-share : (x y : List ℕ) → length x ≡ n → length y ≡ n → i < n
+      → getD (each bitXor x y) i 0 ≡ bitXor (getD x i 0) (getD y i 0)
+  each-share x y e f h = each-at bitXor x y (f ∙ sym e) i (omega arith)
+
+  two : length (each bitXor a b) ≡ n
+  two = each-size a b la lb
+
+  three : length (each bitXor (each bitXor a b) c) ≡ n
+  three = each-size (each bitXor a b) c two lc
+
+  four : length z ≡ length (each bitXor (each bitXor (each bitXor a b) c) d)
+  four = lz ∙ sym (each-size (each bitXor (each bitXor a b) c) d three ld)
+
+  pub mixed-next : (v : ℕ) → i < n
+      → v ≡ rotl k 1 (bitXor (bitXor (bitXor (getD a i 0) (getD b i 0)) (getD c i 0)) (getD d i 0))
+      → take i z ≡ take i (rotated k 1 (each bitXor (each bitXor (each bitXor a b) c) d))
+      → take (i + 1) (set z i v) ≡ take (i + 1) (rotated k 1 (each bitXor (each bitXor (each bitXor a b) c) d))
+  mixed-next v h e =
+      mapped-next (rotl k 1) (each bitXor (each bitXor (each bitXor a b) c) d) z i four v (omega (arith, four))
+      (rw (each-share (each bitXor (each bitXor a b) c) d three ld h, each-share (each bitXor a b) c two lc h)
+      (rw (each-share a b la lb h) e))
+
+  pub mixed-end : n ≤ i → take i z ≡ take i (rotated k 1 (each bitXor (each bitXor (each bitXor a b) c) d))
+      → z ≡ rotated k 1 (each bitXor (each bitXor (each bitXor a b) c) d)
+  mixed-end h = mapped-end (rotl k 1) (each bitXor (each bitXor (each bitXor a b) c) d) z i four (omega (arith, four))
+
+-- ---- following_at: of the four words before it
+pub following-made : (k n : ℕ) (W a b c d z : List ℕ)
     → a ≡ ago n 3 W → b ≡ ago n 8 W → c ≡ ago n 14 W → d ≡ ago n 16 W
-    → x ≡ each bitXor (each bitXor a b) c → y ≡ each bitXor x d → z ≡ rotated k 1 y → z ≡ following k n W
+    → z ≡ rotated k 1 (each bitXor (each bitXor (each bitXor a b) c) d) → z ≡ following k n W
 unfolding following
-following-made k n W a b c d x y z ea eb ec ed ex ey ez = rw (← ea, ← eb, ← ec, ← ed, ← ex, ← ey) ez
+following-made k n W a b c d z ea eb ec ed ez = rw (← ea, ← eb, ← ec, ← ed) ez
 
 -- ---- schedule_at: what is left, from the first t words on, gives all
 module _ (k n m : ℕ) where

@@ -1,14 +1,15 @@
 // The schedule of masked SHA-1: eighty words in n shares each, made from the sixteen of a block.
 ghost use mathlib.Core.Path.{_≡_};
-ghost use mathlib.Core.List.{_++_};
+ghost use mathlib.Core.List.{[], _∷_, _++_};
 ghost use Prim.Native.Nat.{_+_, _-_, _*_, _≤_, _<_};
+ghost use lib.Bits.{bitXor};
 ghost use lib.ListN.{length};
 ghost use Rattle.rules.specs.Numbers.{largest};
-ghost use Rattle.rules.specs.Sha1.{ago, following, schedule};
-ghost use Rattle.masked_words.specs.Words.{firsts};
-use masked_words::parity;
+ghost use Rattle.rules.specs.Shares.{each};
+ghost use Rattle.rules.specs.Sha1.{rotated, ago, following, schedule};
+ghost use Rattle.masked_words.specs.Words.{Sized, firsts};
 use masked_words::put_word;
-use masked_words::rotate;
+use masked_words::rotate_share;
 use masked_words::word;
 use rules::BLOCK_WORDS;
 use rules::LARGEST;
@@ -27,18 +28,32 @@ fn ago(n: usize, u: &[u32], t: usize, j: usize) -> &[u32]
     word(u, n, t - j)
 }
 
+// z becomes the XOR of four words, rotated by 1.
+fn mixed(n: usize, a: &[u32], b: &[u32], c: &[u32], d: &[u32], z: &mut [u32])
+    requires { ⌜ Sized n (now a ∷ now b ∷ now c ∷ now d ∷ now z ∷ []) ⌝ }
+    ensures { λ _. ⌜ now (z .exit) ≡ rotated 32 1
+        (each bitXor (each bitXor (each bitXor (now (a .entry)) (now (b .entry))) (now (c .entry))) (now (d .entry))) ⌝ }
+{
+    let mut i = 0;
+    while i < n {
+        z[i] = rotate_share(a[i] ^ b[i] ^ c[i] ^ d[i], 1);
+        i += 1;
+    }
+}
+
 // z becomes word t of the schedule u, from those 3, 8, 14 and 16 before it.
 fn following_at(n: usize, u: &[u32], t: usize, z: &mut [u32])
-    requires { ⌜ (n ≤ largest) × (16 ≤ t) × (t * n ≤ length (now u)) × (length (now z) ≡ n) ⌝ }
+    requires { ⌜ (16 ≤ t) × (t * n ≤ length (now u)) × (length (now z) ≡ n) ⌝ }
     ensures { λ _. ⌜ now (z .exit) ≡ following 32 n (firsts n t (now (u .entry))) ⌝ }
 {
-    let mut x0 = [0u32; LARGEST];
-    let mut y0 = [0u32; LARGEST];
-    let x = &mut x0[0..n];
-    let y = &mut y0[0..n];
-    parity(n, ago(n, u, t, 3), ago(n, u, t, 8), ago(n, u, t, 14), x);
-    shares::xor_each(x, ago(n, u, t, 16), y);
-    rotate(1, y, z);
+    mixed(
+        n,
+        ago(n, u, t, 3),
+        ago(n, u, t, 8),
+        ago(n, u, t, 14),
+        ago(n, u, t, 16),
+        z,
+    );
 }
 
 // One word more of the schedule u: word t.
