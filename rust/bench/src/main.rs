@@ -24,7 +24,14 @@ const BUDGET: Duration = Duration::from_secs(1);
 /// Makes a step once, and gives a number that depends on the whole answer.
 type Step = Box<dyn FnMut() -> u32>;
 
-/// The words that a step lends to its call, the same in every run.
+/// What both sides of a step read: the very same words of memory, so that neither has them nearer.
+#[derive(Clone, Copy)]
+struct Lent {
+    input: &'static [u32],
+    words: &'static [u32],
+}
+
+/// Random words, the same in every run.
 fn random_words(count: usize) -> &'static [u32] {
     let mut state = 1u64;
     let next = || {
@@ -51,11 +58,9 @@ fn shared<const N: usize, const WORDS: usize>(words: &[u32]) -> [[u32; N]; WORDS
 }
 
 /// The step as the archive makes it.
-fn archive<const N: usize>(step: &str) -> Step {
-    let input = random_words(40 * N);
+fn archive<const N: usize>(step: &str, Lent { input, words }: Lent) -> Step {
     let (x, y) = (&input[..N], &input[N..2 * N]);
     let mut z = [0; N];
-    let words = random_words(drawn(step, N));
     let done = "the arguments are right";
     match step {
         "addition" => Box::new(move || {
@@ -87,13 +92,11 @@ fn archive<const N: usize>(step: &str) -> Step {
 }
 
 /// The step in optimised Rust.
-fn rust<const N: usize>(step: &str) -> Step
+fn rust<const N: usize>(step: &str, Lent { input, words }: Lent) -> Step
 where
     Optimised: Convert<N>,
 {
-    let input = random_words(40 * N);
     let [x, y] = shared::<N, 2>(input);
-    let words = random_words(drawn(step, N));
     let supply = move || Supply { words, place: 0 };
     match step {
         "addition" => Box::new(move || digest(optimised::add(black_box(&x), &y, &mut supply()))),
@@ -122,13 +125,15 @@ fn drawn(step: &str, n: usize) -> usize {
     drawn.expect("the share count is right").words()
 }
 
-/// Both sides of a step: the archive's, and Rust's.
+/// Both sides of a step on the same words: the archive's, and Rust's.
 fn sides(step: &str, n: usize) -> [Step; 2] {
+    let (input, words) = random_words(16 * n + drawn(step, n)).split_at(16 * n);
+    let lent = Lent { input, words };
     match n {
-        1 => [archive::<1>(step), rust::<1>(step)],
-        2 => [archive::<2>(step), rust::<2>(step)],
-        4 => [archive::<4>(step), rust::<4>(step)],
-        _ => [archive::<8>(step), rust::<8>(step)],
+        1 => [archive::<1>(step, lent), rust::<1>(step, lent)],
+        2 => [archive::<2>(step, lent), rust::<2>(step, lent)],
+        4 => [archive::<4>(step, lent), rust::<4>(step, lent)],
+        _ => [archive::<8>(step, lent), rust::<8>(step, lent)],
     }
 }
 
