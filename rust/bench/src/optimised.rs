@@ -44,28 +44,36 @@ fn expand<const N: usize, const TWICE: usize>(x: [u32; N], supply: &mut Supply) 
     })
 }
 
-#[inline(always)]
-fn and<const N: usize>(x: &[u32; N], y: &[u32; N], supply: &mut Supply) -> [u32; N] {
-    let words = supply.draw(N * (N - 1) / 2);
-    let mut z = each(x, y, |a, b| a & b);
-    let mut place = 0;
-    for i in 0..N {
-        for j in i + 1..N {
-            let s = words[place];
-            place += 1;
-            z[i] ^= s;
-            z[j] ^= (s ^ (x[i] & y[j])) ^ (x[j] & y[i]);
-        }
-    }
-    z
+/// How many words an AND draws: one for each pair of shares.
+const fn pairs(shares: usize) -> usize {
+    shares * (shares - 1) / 2
 }
 
+/// Each share of an AND by itself, so that few values are needed at a time.
+#[inline(always)]
+fn and<const N: usize>(x: &[u32; N], y: &[u32; N], words: &[u32]) -> [u32; N] {
+    let word = |i: usize, j: usize| words[pairs(N) - pairs(N - i) + j - i - 1];
+    std::array::from_fn(|j| {
+        let mut z = x[j] & y[j];
+        for i in 0..j {
+            z ^= (word(i, j) ^ (x[i] & y[j])) ^ (x[j] & y[i]);
+        }
+        for k in j + 1..N {
+            z ^= word(j, k);
+        }
+        z
+    })
+}
+
+/// An addition takes its words at once, so that no round tests a bound.
 pub fn add<const N: usize>(x: &[u32; N], y: &[u32; N], supply: &mut Supply) -> [u32; N] {
-    let w = and(x, y, supply);
+    let words = supply.draw(32 * pairs(N));
+    let w = and(x, y, words);
     let a = xor(x, y);
     let mut u = [0; N];
-    for _ in 0..31 {
-        u = each(&and(&u, &a, supply), &w, |v, w| (v ^ w) << 1);
+    for round in 1..32 {
+        let words = &words[round * pairs(N)..];
+        u = each(&and(&u, &a, words), &w, |v, w| (v ^ w) << 1);
     }
     xor(&a, &u)
 }
@@ -136,10 +144,11 @@ fn function<const N: usize>(
     [b, c, d]: [&Shared<N>; 3],
     supply: &mut Supply,
 ) -> (Shared<N>, u32) {
+    let mut and = |x: &Shared<N>, y: &Shared<N>| and(x, y, supply.draw(pairs(N)));
     match t / 20 {
-        0 => (xor(d, &and(b, &xor(c, d), supply)), 0x5a827999),
+        0 => (xor(d, &and(b, &xor(c, d))), 0x5a827999),
         1 => (xor(&xor(b, c), d), 0x6ed9eba1),
-        2 => (xor(d, &and(&xor(b, d), &xor(c, d), supply)), 0x8f1bbcdc),
+        2 => (xor(d, &and(&xor(b, d), &xor(c, d))), 0x8f1bbcdc),
         _ => (xor(&xor(b, c), d), 0xca62c1d6),
     }
 }
