@@ -49,31 +49,42 @@ const fn pairs(shares: usize) -> usize {
     shares * (shares - 1) / 2
 }
 
-/// Each share of an AND by itself, so that few values are needed at a time.
+/// First the words, each into both shares of its pair, then the products of each share.
 #[inline(always)]
 fn and<const N: usize>(x: &[u32; N], y: &[u32; N], words: &[u32]) -> [u32; N] {
-    let word = |i: usize, j: usize| words[pairs(N) - pairs(N - i) + j - i - 1];
-    std::array::from_fn(|j| {
-        let mut z = x[j] & y[j];
+    let mut z = [0; N];
+    let mut place = 0;
+    for i in 0..N {
+        for j in i + 1..N {
+            z[i] ^= words[place];
+            z[j] ^= words[place];
+            place += 1;
+        }
+    }
+    for j in 0..N {
+        z[j] ^= x[j] & y[j];
         for i in 0..j {
-            z ^= (word(i, j) ^ (x[i] & y[j])) ^ (x[j] & y[i]);
+            z[j] ^= (x[i] & y[j]) ^ (x[j] & y[i]);
         }
-        for k in j + 1..N {
-            z ^= word(j, k);
-        }
-        z
-    })
+    }
+    z
 }
 
-/// An addition takes its words at once, so that no round tests a bound.
+/// A round of an addition: the carries into each place, from those of the round before.
+#[inline(always)]
+fn round<const N: usize>(u: &[u32; N], a: &[u32; N], w: &[u32; N], words: &[u32]) -> [u32; N] {
+    each(&and(u, a, words), w, |v, w| (v ^ w) << 1)
+}
+
+/// An addition takes its words at once, so that no round tests a bound. The first round stands apart: it has no
+/// products yet, and w, which is then used twice, is not spread over the terms of every round by the compiler.
 pub fn add<const N: usize>(x: &[u32; N], y: &[u32; N], supply: &mut Supply) -> [u32; N] {
     let words = supply.draw(32 * pairs(N));
     let w = and(x, y, words);
     let a = xor(x, y);
-    let mut u = [0; N];
-    for round in 1..32 {
-        let words = &words[round * pairs(N)..];
-        u = each(&and(&u, &a, words), &w, |v, w| (v ^ w) << 1);
+    let mut u = round(&[0; N], &a, &w, &words[pairs(N)..]);
+    for number in 2..32 {
+        u = round(&u, &a, &w, &words[number * pairs(N)..]);
     }
     xor(&a, &u)
 }
