@@ -1,9 +1,11 @@
 //! How fast the archive is beside the same steps in optimised Rust.
 //!
-//!     bench                                times every step on both sides in turns, and prints the ratios
-//!     bench STEP N SIDE REPEATS [BYTES]    makes one step so often and prints nothing, to count instructions
-//!     bench time N BYTES                   times the archive's tag of so many bytes, in microseconds
-//!     bench plot UNIT                      draws lines `shares bytes figure` of its input as an SVG
+//! ```text
+//! bench                                times every step on both sides in turns, and prints the ratios
+//! bench STEP N SIDE REPEATS [BYTES]    makes one step so often and prints nothing, to count instructions
+//! bench time N BYTES                   times the archive's tag of so many bytes, in microseconds
+//! bench plot UNIT                      draws lines `shares bytes figure` of its input as an SVG
+//! ```
 
 mod optimised;
 mod plot;
