@@ -1,9 +1,14 @@
 //! How fast the archive is beside the same steps in optimised Rust.
 //!
-//!     bench                        times every step on both sides in turns, and prints the ratios
-//!     bench STEP N SIDE REPEATS    makes one step so often and prints nothing, to count instructions
+//! ```text
+//! bench                                times every step on both sides in turns, and prints the ratios
+//! bench STEP N SIDE REPEATS [BYTES]    makes one step so often and prints nothing, to count instructions
+//! bench time N BYTES                   times the archive's tag of so many bytes, in microseconds
+//! bench plot UNIT                      draws lines `shares bytes figure` of its input as an SVG
+//! ```
 
 mod optimised;
+mod plot;
 
 use flamivorse::Chain;
 use optimised::{Convert, Optimised, Supply};
@@ -12,7 +17,9 @@ use std::time::{Duration, Instant};
 
 const STEPS: [&str; 5] = ["addition", "a2b", "b2a", "compression", "tag"];
 const COUNTS: [usize; 4] = [1, 2, 4, 8];
-const MESSAGE: [u8; flamivorse::MESSAGE_LIMIT] = [0x61; flamivorse::MESSAGE_LIMIT];
+
+/// The longest message, which a tag is of unless its length is given.
+const MESSAGE: &[u8] = &[0x61; flamivorse::MESSAGE_LIMIT];
 
 /// What one measurement takes at least. Short, so that some fall between whatever else runs.
 const SPAN: Duration = Duration::from_millis(2);
@@ -24,7 +31,15 @@ const BUDGET: Duration = Duration::from_secs(1);
 /// Makes a step once, and gives a number that depends on the whole answer.
 type Step = Box<dyn FnMut() -> u32>;
 
-/// The words that a step lends to its call, the same in every run.
+/// What both sides of a step read: the very same words of memory, so that neither has them nearer.
+#[derive(Clone, Copy)]
+struct Lent {
+    input: &'static [u32],
+    message: &'static [u8],
+    words: &'static [u32],
+}
+
+/// Random words, the same in every run.
 fn random_words(count: usize) -> &'static [u32] {
     let mut state = 1u64;
     let next = || {
@@ -51,11 +66,10 @@ fn shared<const N: usize, const WORDS: usize>(words: &[u32]) -> [[u32; N]; WORDS
 }
 
 /// The step as the archive makes it.
-fn archive<const N: usize>(step: &str) -> Step {
-    let input = random_words(40 * N);
+fn archive<const N: usize>(step: &str, lent: Lent) -> Step {
+    let Lent { input, words, .. } = lent;
     let (x, y) = (&input[..N], &input[N..2 * N]);
     let mut z = [0; N];
-    let words = random_words(drawn(step, N));
     let done = "the arguments are right";
     match step {
         "addition" => Box::new(move || {
@@ -79,21 +93,26 @@ fn archive<const N: usize>(step: &str) -> Step {
         }),
         _ => Box::new(move || {
             let mut tag = [0; 20];
-            flamivorse::hmac_sha1(N, black_box(&input[..16 * N]), &MESSAGE, &mut tag, words)
-                .expect(done);
+            flamivorse::hmac_sha1(
+                N,
+                black_box(&input[..16 * N]),
+                lent.message,
+                &mut tag,
+                words,
+            )
+            .expect(done);
             digest(tag.map(u32::from))
         }),
     }
 }
 
 /// The step in optimised Rust.
-fn rust<const N: usize>(step: &str) -> Step
+fn rust<const N: usize>(step: &str, lent: Lent) -> Step
 where
     Optimised: Convert<N>,
 {
-    let input = random_words(40 * N);
+    let Lent { input, words, .. } = lent;
     let [x, y] = shared::<N, 2>(input);
-    let words = random_words(drawn(step, N));
     let supply = move || Supply { words, place: 0 };
     match step {
         "addition" => Box::new(move || digest(optimised::add(black_box(&x), &y, &mut supply()))),
@@ -105,30 +124,36 @@ where
         }),
         _ => Box::new(move || {
             let key = shared::<N, 16>(black_box(input));
-            digest(optimised::hmac(&key, &MESSAGE, &mut supply()).map(u32::from))
+            digest(optimised::hmac(&key, lent.message, &mut supply()).map(u32::from))
         }),
     }
 }
 
 /// How many words a step draws.
-fn drawn(step: &str, n: usize) -> usize {
+fn drawn(step: &str, n: usize, bytes: usize) -> usize {
     let drawn = match step {
         "addition" => flamivorse::add_words(n),
         "a2b" => flamivorse::a2b_words(n),
         "b2a" => flamivorse::b2a_words(n),
         "compression" => flamivorse::sha1_compress_words(n),
-        _ => flamivorse::hmac_sha1_words(n, MESSAGE.len()),
+        _ => flamivorse::hmac_sha1_words(n, bytes),
     };
     drawn.expect("the share count is right").words()
 }
 
-/// Both sides of a step: the archive's, and Rust's.
-fn sides(step: &str, n: usize) -> [Step; 2] {
+/// Both sides of a step on the same words: the archive's, and Rust's.
+fn sides(step: &str, n: usize, bytes: usize) -> [Step; 2] {
+    let (input, words) = random_words(16 * n + drawn(step, n, bytes)).split_at(16 * n);
+    let lent = Lent {
+        input,
+        message: &MESSAGE[..bytes],
+        words,
+    };
     match n {
-        1 => [archive::<1>(step), rust::<1>(step)],
-        2 => [archive::<2>(step), rust::<2>(step)],
-        4 => [archive::<4>(step), rust::<4>(step)],
-        _ => [archive::<8>(step), rust::<8>(step)],
+        1 => [archive::<1>(step, lent), rust::<1>(step, lent)],
+        2 => [archive::<2>(step, lent), rust::<2>(step, lent)],
+        4 => [archive::<4>(step, lent), rust::<4>(step, lent)],
+        _ => [archive::<8>(step, lent), rust::<8>(step, lent)],
     }
 }
 
@@ -141,12 +166,12 @@ fn time(step: &mut Step, repeats: u32) -> Duration {
 }
 
 /// The least time of each side for one step, in microseconds, over many turns.
-fn measure(mut sides: [Step; 2]) -> [f64; 2] {
+fn measure<const SIDES: usize>(mut sides: [Step; SIDES]) -> [f64; SIDES] {
     let mut repeats = 1;
     while time(&mut sides[0], repeats) < SPAN {
         repeats *= 2;
     }
-    let mut least = [Duration::MAX; 2];
+    let mut least = [Duration::MAX; SIDES];
     let start = Instant::now();
     for turn in 0.. {
         if turn >= TURNS && start.elapsed() > BUDGET {
@@ -165,7 +190,7 @@ fn table() {
     println!("|---|---|---|---|---|");
     for step in STEPS {
         for n in COUNTS {
-            let mut sides = sides(step, n);
+            let mut sides = sides(step, n, MESSAGE.len());
             let [archive, rust] = sides.each_mut().map(|step| step());
             assert_eq!(archive, rust, "{step} at n = {n}");
             let [archive, rust] = measure(sides);
@@ -177,16 +202,36 @@ fn table() {
     }
 }
 
-fn main() {
-    let arguments: Vec<String> = std::env::args().skip(1).collect();
-    let [step, n, side, repeats] = arguments.as_slice() else {
-        return table();
-    };
-    let [mut archive, mut rust] = sides(step, n.parse().expect("a share count"));
+/// Makes a step of one side so often.
+fn repeat(step: &str, n: &str, side: &str, repeats: &str, bytes: usize) {
+    let [mut archive, mut rust] = sides(step, number(n), bytes);
     let side = if side == "archive" {
         &mut archive
     } else {
         &mut rust
     };
-    time(side, repeats.parse().expect("a number of repeats"));
+    time(side, number(repeats) as u32);
+}
+
+fn number(argument: &str) -> usize {
+    argument.parse().expect("a number")
+}
+
+fn main() -> std::io::Result<()> {
+    let arguments: Vec<String> = std::env::args().skip(1).collect();
+    let arguments: Vec<&str> = arguments.iter().map(String::as_str).collect();
+    match arguments[..] {
+        ["plot", unit] => {
+            let lines = std::io::read_to_string(std::io::stdin())?;
+            print!("{}", plot::svg(unit, &lines));
+        }
+        ["time", n, bytes] => {
+            let [archive, _] = sides("tag", number(n), number(bytes));
+            println!("{:.3}", measure([archive])[0]);
+        }
+        [step, n, side, repeats] => repeat(step, n, side, repeats, MESSAGE.len()),
+        [step, n, side, repeats, bytes] => repeat(step, n, side, repeats, number(bytes)),
+        _ => table(),
+    }
+    Ok(())
 }

@@ -44,9 +44,13 @@ fn expand<const N: usize, const TWICE: usize>(x: [u32; N], supply: &mut Supply) 
     })
 }
 
+/// How many words an AND draws: one for each pair of shares.
+const fn pairs(shares: usize) -> usize {
+    shares * (shares - 1) / 2
+}
+
 #[inline(always)]
-fn and<const N: usize>(x: &[u32; N], y: &[u32; N], supply: &mut Supply) -> [u32; N] {
-    let words = supply.draw(N * (N - 1) / 2);
+fn and<const N: usize>(x: &[u32; N], y: &[u32; N], words: &[u32]) -> [u32; N] {
     let mut z = each(x, y, |a, b| a & b);
     let mut place = 0;
     for i in 0..N {
@@ -60,12 +64,16 @@ fn and<const N: usize>(x: &[u32; N], y: &[u32; N], supply: &mut Supply) -> [u32;
     z
 }
 
+/// An addition takes its words at once, so that no round tests a bound. With its first round apart it would be faster,
+/// and not the same steps: the compiler then adds shares up before it multiplies them (docs/SPEED.md).
 pub fn add<const N: usize>(x: &[u32; N], y: &[u32; N], supply: &mut Supply) -> [u32; N] {
-    let w = and(x, y, supply);
+    let words = supply.draw(32 * pairs(N));
+    let w = and(x, y, words);
     let a = xor(x, y);
     let mut u = [0; N];
-    for _ in 0..31 {
-        u = each(&and(&u, &a, supply), &w, |v, w| (v ^ w) << 1);
+    for round in 1..32 {
+        let carried = and(&u, &a, &words[round * pairs(N)..]);
+        u = each(&carried, &w, |v, w| (v ^ w) << 1);
     }
     xor(&a, &u)
 }
@@ -136,10 +144,11 @@ fn function<const N: usize>(
     [b, c, d]: [&Shared<N>; 3],
     supply: &mut Supply,
 ) -> (Shared<N>, u32) {
+    let mut and = |x: &Shared<N>, y: &Shared<N>| and(x, y, supply.draw(pairs(N)));
     match t / 20 {
-        0 => (xor(d, &and(b, &xor(c, d), supply)), 0x5a827999),
+        0 => (xor(d, &and(b, &xor(c, d))), 0x5a827999),
         1 => (xor(&xor(b, c), d), 0x6ed9eba1),
-        2 => (xor(d, &and(&xor(b, d), &xor(c, d), supply)), 0x8f1bbcdc),
+        2 => (xor(d, &and(&xor(b, d), &xor(c, d))), 0x8f1bbcdc),
         _ => (xor(&xor(b, c), d), 0xca62c1d6),
     }
 }
