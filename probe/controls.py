@@ -31,9 +31,10 @@ WIDE = [replace(call, name=f"control: {call.name}, copies of 16 bytes at a time"
 
 
 def trial(leaks):
-    """trial.rattle: two calls of the library, built with its veil or with one that adds nothing (see run)."""
+    """trial.rattle: three calls of the library, built with its veil or with one that adds nothing (see run)."""
     veil = "without" if leaks else "with"
     return [
         Call(f"control: AND {veil} the veil", "trial_and", (Shares(X), Shares(Y), Room(2), FreshWords(1)), number=1, leaks=leaks),
+        Call(f"control: add {veil} the veil", "trial_add", (Shares(X), Shares(Y), Room(2), FreshWords(32)), number=32, leaks=leaks),
         Call(f"control: a2b_2 {veil} the veil", "trial_a2b_2", (Share(SUM, 0), Share(SUM, 1), FreshWord()), leaks=leaks),
     ]
