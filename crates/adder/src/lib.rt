@@ -1,9 +1,9 @@
-// AND and addition of shares, by loops over slices: for any count, the reference. Addition is chosen here: few shares go by
-// words of their own (crate `few`), the largest count by the same loops with a constant count, which the compiler unrolls.
-// Each function is proved to be its rule, word for word of the supply.
+// AND and addition of shares, by loops over slices: the reference, for any count. The form of an addition is chosen
+// here: few shares by words of their own (crate `few`), the largest count by the same loops with a constant count, which
+// the compiler unrolls, any other by the reference. Each function is proved to be its rule, word for word of the supply.
 ghost use mathlib.Core.Path.{_≡_};
 ghost use Prim.Native.Nat.{_+_, _-_, _*_, _≤_, _<_};
-ghost use lib.Bits.{bitXor, bitAnd};
+ghost use lib.Bits.{bitAnd};
 ghost use lib.ListN.{length};
 ghost use Rattle.rules.specs.Numbers.{largest};
 ghost use Rattle.rules.specs.Shares.{each, pass, along, cross, and, doubleXor, carries, add};

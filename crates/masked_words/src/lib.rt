@@ -10,7 +10,6 @@ ghost use Rattle.rules.specs.Shares.{each, add};
 ghost use Rattle.rules.specs.Sha1.{word, public, rotl, rotated};
 ghost use Rattle.rules.specs.Counts.{andDraws};
 ghost use Rattle.masked_words.specs.Words.{Masked, firsts, turned};
-use rules::LARGEST;
 
 // ---- places
 

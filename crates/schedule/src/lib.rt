@@ -31,8 +31,8 @@ fn ago(n: usize, u: &[u32], t: usize, j: usize) -> &[u32]
 // z becomes the XOR of four words, rotated by 1.
 fn mixed(n: usize, a: &[u32], b: &[u32], c: &[u32], d: &[u32], z: &mut [u32])
     requires { ⌜ Sized n (now a ∷ now b ∷ now c ∷ now d ∷ now z ∷ []) ⌝ }
-    ensures { λ _. ⌜ now (z .exit) ≡ rotated 32 1
-        (each bitXor (each bitXor (each bitXor (now (a .entry)) (now (b .entry))) (now (c .entry))) (now (d .entry))) ⌝ }
+    ensures { λ _. ⌜ now (z .exit) ≡ rotated 32 1 (each bitXor (each bitXor (each bitXor
+        (now (a .entry)) (now (b .entry))) (now (c .entry))) (now (d .entry))) ⌝ }
 {
     let mut i = 0;
     while i < n {

@@ -5,7 +5,7 @@ use mathlib.Core.List.{List, [], _++_, map}
 use native.Mathlib.Nat.{add-mul, sub-zero}
 use native.Mathlib.Omega.{arith}
 use lib.ListN.{length, take, drop, replicate, length-replicate, replicate-append-replicate}
-use lib.Seq.{length-take-le, take-at, drop-at}
+use lib.Seq.{take-at, drop-at}
 use Rattle.rules.specs.Numbers.{largest}
 use Rattle.rules.specs.Shares.{add}
 use Rattle.rules.specs.Convert.{Adder}

@@ -1,6 +1,5 @@
 -- as for any count, with rooms that are lent whole
 use borrow.Author.Needs.{needs}
-use mathlib.Core.Path.{refl}
 use Rattle.rules.proofs.Loops.{add-made}
 use Rattle.adder.proofs.add_largest.Statement.{statement}
 use Rattle.adder.proofs.add_largest.Tie as tie

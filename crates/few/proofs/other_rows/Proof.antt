@@ -1,5 +1,4 @@
 -- by the count
-use borrow.Author.Needs.{needs}
 use Rattle.few.proofs.Laws.{no-others, others-of-more, others-room, others-place, none-place}
 use Rattle.few.proofs.other_rows.Statement.{statement}
 use Rattle.few.proofs.other_rows.Tie as tie
