@@ -12,7 +12,6 @@ ghost use Rattle.rules.specs.Counts.{andDraws, addDraws};
 ghost use Rattle.few.specs.Shares.{IsFew, firsts, ran, Crosses, firstRow, otherRows};
 use supply::draw_at;
 use veil::held;
-use veil::held_double;
 use width::BITS;
 use width::Word;
 
@@ -247,11 +246,11 @@ fn other_rows(n: usize, x: Few, y: Few, z: Run, words: &[Word]) -> Run
 
 // ---- the carry loop
 
-// 2((s ⊕ (xi ∧ yj)) ⊕ (xj ∧ yi)), in this order. The inner `held` doubles as well, which costs no step of its own.
+// 2((s ⊕ (xi ∧ yj)) ⊕ (xj ∧ yi)), in this order. Doubling and the inner `held` are one instruction together.
 fn crossed_double(s: Word, xi: Word, yj: Word, xj: Word, yi: Word, words: &[Word]) -> Word
     ensures { λ r. ⌜ r ≡ double bits (bitXor (bitXor s (bitAnd xi yj)) (bitAnd xj yi)) ⌝ }
 {
-    held(held_double(s ^ (xi & yj), words) ^ ((xj & yi) << 1), words)
+    held(held((s ^ (xi & yj)) << 1, words) ^ ((xj & yi) << 1), words)
 }
 
 // One round of two shares. Each waits for the one before, so it is the longest chain of steps that counts: six here,
