@@ -40,7 +40,7 @@ struct Pair {
 
 // Whether n is such a count.
 pub fn is_few(n: usize) -> bool
-    ensures { λ r. ⌜ (r ≡ true → IsFew n) ⌝ }
+    ensures { λ r. ⌜ (r ≡ true → IsFew n) × (IsFew n → r ≡ true) ⌝ }
 {
     if n == 1 {
         return true;

@@ -6,7 +6,7 @@ use Rattle.adder.proofs.add_in.Statement.{statement}
 use Rattle.adder.proofs.add_in.Tie as tie
 
 add-in-requires : tie.Need-add-in-requires
-add-in-requires c κs = (c .before .before .is-few .ensures (c .before .if1 .taken), search needs, search needs)
+add-in-requires c κs = (c .before .before .is-few .ensures .0 (c .before .if1 .taken), search needs, search needs)
 
 add-largest-requires : tie.Need-add-largest-requires
 add-largest-requires c κs =
