@@ -5,6 +5,8 @@ ghost use Rattle.rules.specs.Calls.{b2aTwo, a2bTwo, b2aRecordCall, a2bRecordCal
 ghost use Rattle.rules.specs.Calls.{refreshCall, expandCall, andCall, addCall, a2bCall, b2aCall};
 ghost use Rattle.rules.specs.Calls.{splitWords, refreshWords, expandWords, andWords, addWords, a2bWords, b2aWords};
 ghost use Rattle.rules.specs.Calls.{splitKeyCall, compressCall, hmacCall, splitKeyWords, compressWords, hmacWords};
+ghost use Rattle.rules.specs.Stream.{startCall, feedCall, finishCall, startWords, feedWords, finishWords};
+ghost use Rattle.rules.specs.Counts.{sha1};
 use numbers::DONE;
 use numbers::a2b_words;
 use numbers::add_words;
@@ -14,6 +16,9 @@ use numbers::b2a_words;
 use numbers::compress_words;
 use numbers::compressing;
 use numbers::expand_words;
+use numbers::feed_words;
+use numbers::finish_words;
+use numbers::finishing;
 use numbers::hmac_words;
 use numbers::key_splitting;
 use numbers::key_words;
@@ -21,13 +26,17 @@ use numbers::one_input;
 use numbers::opening;
 use numbers::refresh_words;
 use numbers::splitting;
+use numbers::start_words;
 use numbers::tagging;
 use numbers::two_inputs;
 use numbers::widening;
 use rules::Answer;
 use rules::Chain;
 use rules::Compressed;
+use rules::Fed;
 use rules::Opened;
+use rules::State;
+use rules::Streamed;
 
 // ---- two shares
 
@@ -278,6 +287,62 @@ pub extern "C" fn flamivorse_hmac_sha1(
     answer(DONE, hmac::hmac_tag(n, key, message, tag, words, 0))
 }
 
+// ---- streaming
+
+// What a call on a state hands back.
+fn streamed(number: u32, drawn: usize, state: State) -> Streamed
+    ensures { λ r. ⌜ r ≡ record { number = number; drawn = drawn; state = state } ⌝ }
+{
+    Streamed {
+        number: number,
+        drawn: drawn,
+        state: state,
+    }
+}
+
+// The state that a message starts from, under a key in shares.
+#[no_mangle]
+pub extern "C" fn flamivorse_hmac_sha1_start(n: usize, key: &[u32], words: &[u32]) -> Streamed
+    ensures { λ r. ⌜ startCall (sha1 32) n (now (key .entry)) (now (words .entry)) ≡ r ⌝ }
+{
+    let need = start_words(n).drawn;
+    let number = compressing(n, key.len(), need, words.len());
+    if number != DONE {
+        return streamed(number, 0, stream::zeros());
+    }
+    let made = stream::start_at(n, key, words, 0);
+    let next = made.state;
+    streamed(DONE, made.at, next)
+}
+
+// A state with one more piece of the message.
+#[no_mangle]
+pub extern "C" fn flamivorse_hmac_sha1_feed(state: State, piece: &[u8], words: &[u32]) -> Streamed
+    ensures { λ r. ⌜ feedCall (sha1 32) state (now (piece .entry)) (now (words .entry)) ≡ r ⌝ }
+{
+    let made = stream::feed(state, piece, words);
+    let fed = made.fed;
+    let next = made.state;
+    let Fed::Taken(drawn) = fed else {
+        return streamed(stream::refusal(fed), 0, next);
+    };
+    streamed(DONE, drawn, next)
+}
+
+// The tag of what was fed to a state.
+#[no_mangle]
+pub extern "C" fn flamivorse_hmac_sha1_finish(state: State, tag: &mut [u8], words: &[u32]) -> Streamed
+    ensures { λ r. ⌜ finishCall (sha1 32) state (now (tag .entry)) (now (words .entry)) ≡ (r, now (tag .exit)) ⌝ }
+{
+    let need = finish_words(state).drawn;
+    let number = finishing(state, tag.len(), need, words.len());
+    if number != DONE {
+        return streamed(number, 0, state);
+    }
+    let drawn = stream::finish_at(state, tag, words, 0);
+    streamed(DONE, drawn, stream::finished(state))
+}
+
 // ---- how many words a call will draw
 
 #[no_mangle]
@@ -348,4 +413,25 @@ pub extern "C" fn flamivorse_hmac_sha1_words(n: usize, length: usize) -> Answer
     ensures { λ r. ⌜ hmacWords 32 n length ≡ r ⌝ }
 {
     hmac_words(n, length)
+}
+
+#[no_mangle]
+pub extern "C" fn flamivorse_hmac_sha1_start_words(n: usize) -> Answer
+    ensures { λ r. ⌜ startWords (sha1 32) n ≡ r ⌝ }
+{
+    start_words(n)
+}
+
+#[no_mangle]
+pub extern "C" fn flamivorse_hmac_sha1_feed_words(state: State, length: usize) -> Answer
+    ensures { λ r. ⌜ feedWords (sha1 32) state length ≡ r ⌝ }
+{
+    feed_words(state, length)
+}
+
+#[no_mangle]
+pub extern "C" fn flamivorse_hmac_sha1_finish_words(state: State) -> Answer
+    ensures { λ r. ⌜ finishWords (sha1 32) state ≡ r ⌝ }
+{
+    finish_words(state)
 }

@@ -24,9 +24,9 @@ use rules::WORD_BYTES;
 use sha1::Stepped;
 
 // The byte 0x36, and the byte 0x5c, in every byte of a word.
-const INNER: u32 = 0x36363636;
+pub const INNER: u32 = 0x36363636;
 
-const OUTER: u32 = 0x5c5c5c5c;
+pub const OUTER: u32 = 0x5c5c5c5c;
 
 // A constant goes into share 1 of word w.
 fn mark_at(n: usize, c: u32, w: usize, z: &mut [u32])
@@ -51,7 +51,7 @@ fn key_block(n: usize, c: u32, key: &[u32], z: &mut [u32])
 }
 
 // The key, marked with a constant, into the chain that starts a hash, from the word at `at` on.
-fn key_step(n: usize, c: u32, key: &[u32], words: &[u32], at: usize) -> Stepped
+pub fn key_step(n: usize, c: u32, key: &[u32], words: &[u32], at: usize) -> Stepped
     requires { ⌜ (0 < n) × (n ≤ largest) × (length (now key) ≡ 16 * n) × (at + hash .draws n ≤ length (now words)) ⌝ }
     ensures { λ r. ⌜ (hash .compress n (publics n (hash .standard .start)) (marked n c 16 0 (now (key .entry))) (now (words .entry)) at
         ≡ (used n (r .chain .shares), r .at))
@@ -76,7 +76,7 @@ fn public_block(n: usize, before: usize, text: &[u8], j: usize, z: &mut [u32])
 }
 
 // Block j of a text after `before` bytes, with its padding, into a chain, from the word at `at` on.
-fn block_step(
+pub fn block_step(
     n: usize,
     chain: Chain,
     before: usize,
@@ -143,7 +143,7 @@ fn digest_block(n: usize, inner: &[u32], z: &mut [u32])
 }
 
 // The digest block of the inner chain into the outer chain, from the word at `at` on.
-fn digest_step(n: usize, inner: Chain, outer: Chain, words: &[u32], at: usize) -> Stepped
+pub fn digest_step(n: usize, inner: Chain, outer: Chain, words: &[u32], at: usize) -> Stepped
     requires { ⌜ (0 < n) × (n ≤ largest) × (at + hash .draws n ≤ length (now words)) ⌝ }
     ensures { λ r. ⌜ (hash .compress n (used n (outer .shares)) (used n (inner .shares) ++ publics n (digestPadding (hash .standard)))
         (now (words .entry)) at

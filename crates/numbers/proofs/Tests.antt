@@ -1,15 +1,19 @@
 -- Tests one after the other give what the list of them gives; and what queries tell, by the share count and by a text.
-use Prim.Native.Nat.{ℕ, zero, suc, _*_, _≤_}
+use Prim.Native.Nat.{ℕ, zero, suc, _+_, _-_, _*_, _^_, _≤_, _<_}
 use mathlib.Core.Path.{_≡_, refl, sym, ap, _∙_}
 use mathlib.Core.Bool.{Bool, true, false}
-use mathlib.Core.List.{List, [], _∷_}
-use native.Mathlib.Nat.{mul-zero}
+use mathlib.Core.List.{List, [], _∷_, _++_}
+use native.Mathlib.Nat.{mul-zero, mul-le-mul}
 use native.Mathlib.Omega.{arith}
-use lib.Dec.{eqb}
+use lib.Dec.{eqb, leb}
+use borrow.Author.Tests.{leb-true, leb-false, le-leb, lt-leb}
 use Rattle.rules.specs.declared.Answer.{Answer}
 use Rattle.rules.specs.Numbers.{either, allowed, Test, test, first, settled, told}
 use Rattle.rules.specs.Convert.{choose}
+use Rattle.rules.specs.Counts.{compressDraws}
 use Rattle.rules.specs.Calls.{query}
+use Rattle.rules.proofs.Calls.{settled-refused, tells}
+use Rattle.rules.proofs.Sizes.{compress-count}
 use Rattle.rules.proofs.Allowed.{Taken, one, two, four, eight, counted}
 use Rattle.numbers.specs.Tests.{after, byCount, byText}
 
@@ -27,6 +31,14 @@ first-from (suc t ∷ ts) = sym (stays t ts)
     stays : (number : ℕ) (ts : List Test) → from (suc number) ts ≡ suc number
     stays number [] = refl
     stays number (t ∷ ts) = stays number ts
+
+pub one-more : (ts : List Test) (t : Test) (number result : ℕ) → first ts ≡ number → result ≡ after number t
+    → first (ts ++ (t ∷ [])) ≡ result
+unfolding first
+one-more [] zero number result e f = rw (← e) at (sym f)
+one-more [] (suc m) number result e f = rw (← e) at (sym f)
+one-more (zero ∷ ts) t number result e f = one-more ts t number result e f
+one-more (suc m ∷ ts) t number result e f = rw (← e) at (sym f)
 
 -- ---- queries
 told-count : (n d : ℕ) → told (test 1 (allowed n) ∷ []) d ≡ choose (allowed n) d 0
@@ -76,6 +88,15 @@ query-blocks n m blocks d fits each e h = query-text n (m * d) fits ∙ go fits 
     go true h = rw (← h refl) (ap (λ (q : Answer). byText q true) (query-times (test 1 (allowed n) ∷ []) m d each e))
     go false h = rw (← e)
 
+-- a query from its number: refused, or so many words
+pub query-refused : (tests : List Test) (d number : ℕ) → first tests ≡ number → (number ≡ 0 → ⊥)
+    → query tests d ≡ record { number = number; drawn = 0 }
+query-refused tests d number e h = rw (e, settled-refused number d 0 h)
+
+pub query-done : (tests : List Test) (d number drawn : ℕ) → first tests ≡ number → number ≡ 0 → drawn ≡ d
+    → query tests d ≡ record { number = 0; drawn = drawn }
+query-done tests d number drawn e h f = rw (e, h, f)
+
 -- a share count that is not taken is none of 2, 4 and 8
 others : (n : ℕ) → allowed n ≡ false → (eqb n 2 ≡ false) × (eqb n 4 ≡ false) × (eqb n 8 ≡ false)
 unfolding allowed
@@ -117,3 +138,35 @@ module _ (d : ℕ → ℕ) (n : ℕ) where
       go : (t : Bool) → allowed n ≡ t → choose t (d n) 0 ≡ byCount n two′ four′ eight′
       go true e = at (counted n e)
       go false e = let o = others n e in rw (o .0, o .1, o .2)
+
+-- ---- compressions: what one draws is told, and is not over what it draws at the largest share count
+abbrev most : ℕ
+most = 292320
+
+module _ (n : ℕ) (each : Answer) (e : query (test 1 (allowed n) ∷ []) (compressDraws 32 n) ≡ each) where
+  pub compress-below : each .drawn ≤ most
+  compress-below =
+      rw (ap (λ (q : Answer). q .drawn) e) at
+      (told-below (compressDraws 32) n most (at 1 (omega arith)) (at 2 (omega arith)) (at 4 (omega arith)) (at 8 (omega arith)))
+    where
+      at : (n : ℕ) → 5220 * (n * (n - 1)) ≤ most → compressDraws 32 n ≤ most
+      at n h = rw (compress-count n) h
+
+  pub compress-told : allowed n ≡ true → compressDraws 32 n ≡ each .drawn
+  unfolding first test
+  compress-told h = tells (test 1 (allowed n) ∷ []) (compressDraws 32 n) each e (rw h)
+
+  -- so many of them fit into 64 bits
+  pub compressions-fit : (m : ℕ) → m ≤ 68 → m * each .drawn < 2 ^ 64
+  compressions-fit m h = omega (arith, mul-le-mul h compress-below)
+
+-- ---- a message that grows
+pub not-grown : (bytes piece longest : ℕ) → longest < bytes → false ≡ leb (bytes + piece) longest
+not-grown bytes piece longest h = sym (lt-leb (bytes + piece) longest (omega arith))
+
+pub grown : (bytes piece longest : ℕ) → bytes ≤ longest → leb piece (longest - bytes) ≡ leb (bytes + piece) longest
+grown bytes piece longest h = go (leb piece (longest - bytes)) refl
+  where
+    go : (t : Bool) → leb piece (longest - bytes) ≡ t → t ≡ leb (bytes + piece) longest
+    go true e = sym (le-leb (bytes + piece) longest (omega (arith, leb-true piece (longest - bytes) e)))
+    go false e = sym (lt-leb (bytes + piece) longest (omega (arith, leb-false piece (longest - bytes) e)))

@@ -15,7 +15,7 @@ use borrow.Author.Tests.{eqb-true, leb-true}
 use Rattle.rules.specs.declared.Answer.{Answer}
 use Rattle.rules.specs.declared.Chain.{Chain}
 use Rattle.rules.specs.Supply.{Draw, Rule, split}
-use Rattle.rules.specs.Numbers.{largest, longestKey, longestMessage, both, allowed, Test, test, first}
+use Rattle.rules.specs.Numbers.{largest, longestKey, longestMessage, both, allowed, fit, Test, test, first}
 use Rattle.rules.specs.Shares.{refresh, expand, and, add}
 use Rattle.rules.specs.Convert.{toBool, toArith}
 use Rattle.rules.specs.Counts.{refreshDraws, andDraws, addDraws, toBoolDraws, toArithDraws, compressDraws, hmacDraws, sha1}
@@ -115,6 +115,23 @@ module _ {n have number : ℕ} {q : Answer} where
         let short = holds _ _ (p .1 .1 .1 .0) in
         let room = ready n drawn have q _ e (taken-text n _ count short) count (p .1 .1 .1 .1 .0) in
         (eqb-true x (16 * n) (holds _ _ (p .1 .0)), holds _ _ (p .1 .1 .0), short, room)
+
+-- ---- streaming: a state that is fit, and a piece that does not pass the limit
+pub fits : (n bytes finished : ℕ) → fit n bytes finished ≡ true → (allowed n ≡ true) × (bytes ≤ longestMessage)
+unfolding fit
+fits n bytes finished h =
+    let rest = both-true _ _ (both-true (eqb finished 0) _ h .1) in
+    (rest .0, leb-true bytes longestMessage (rest .1))
+
+pub fit-ready : (n bytes finished : ℕ) → first (test 6 (fit n bytes finished) ∷ []) ≡ 0
+    → (allowed n ≡ true) × (bytes ≤ longestMessage)
+fit-ready n bytes finished h = fits n bytes finished (holds _ _ (passed _ h .0))
+
+pub piece-ready : (n bytes finished all : ℕ) → first (test 6 (fit n bytes finished) ∷ test 4 (leb all longestMessage) ∷ []) ≡ 0
+    → (allowed n ≡ true) × (all ≤ longestMessage)
+piece-ready n bytes finished all h =
+    let p = passed _ h in
+    (fits n bytes finished (holds _ _ (p .0)) .0, leb-true all longestMessage (holds _ _ (p .1 .0)))
 
 -- a message that is not too long is far from what 64 bits can count
 pub short-text : (l : ℕ) → leb l longestMessage ≡ true → 64 + l < 2 ^ 60

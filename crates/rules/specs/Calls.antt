@@ -42,7 +42,7 @@ abbrev pub a2bRecordCall : Width → Word → Word → Word → List Word → �
 a2bRecordCall k A r G came = recordCall (5 * k + 5) (a2bRecord k A r G) came
 
 -- ---- n shares: a call starts at place 0; after its own tests, 5 where the supply has fewer words than its rule draws
-unfoldable pub call : List Test → Draw (List ℕ) → List ℕ → List ℕ → Answer × List ℕ
+unfoldable pub call : {S : Type 0} → List Test → Draw S → S → Supply → Answer × S
 call tests rule came ws =
     let made = rule ws 0 in
     let number = first (tests ++ (test 5 (leb (made .1) (length ws)) ∷ [])) in

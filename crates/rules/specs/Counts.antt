@@ -1,5 +1,5 @@
 -- Section 5: how many words each rule draws, in closed form, for n shares of k bits. That the rules draw so many is proved.
-use Prim.Native.Nat.{ℕ, zero, suc, _+_, _-_, _*_, _/_}
+use Prim.Native.Nat.{ℕ, zero, suc, _+_, _-_, _*_, _/_, _%_}
 use lib.Dec.{leb}
 use Rattle.words.specs.Word.{Width}
 use Rattle.rules.specs.Supply.{Count}
@@ -58,6 +58,18 @@ compressions H l = (l + H .lengthBytes) / blockBytes H + 4
 
 abbrev pub hmacDraws : Masked → Count → ℕ → ℕ
 hmacDraws M n l = compressions (M .standard) l * M .draws n
+
+-- ---- streaming: start makes two compressions; a feed of l bytes after `bytes` one for each block that it fills; finish the rest
+abbrev pub startDraws : Masked → Count → ℕ
+startDraws M n = 2 * M .draws n
+
+abbrev pub feedDraws : Masked → Count → ℕ → ℕ → ℕ
+feedDraws M n bytes l = let block = blockBytes (M .standard) in (bytes % block + l) / block * M .draws n
+
+abbrev pub finishDraws : Masked → Count → ℕ → ℕ
+finishDraws M n bytes =
+    let block = blockBytes (M .standard) in
+    ((bytes % block + M .standard .lengthBytes) / block + 2) * M .draws n
 
 -- ---- SHA-1 in shares is a hash in shares, with any addition, of so many ANDs; the calls take that of section 5
 abbrev pub sha1By : Width → Adder → ℕ → Masked

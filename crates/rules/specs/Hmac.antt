@@ -49,19 +49,30 @@ blocks M n (suc m) W h ws at =
 abbrev pub digestPadding : Hash → List Word
 digestPadding H = wordsOf (H .wordBytes) (16 - chainWords H) (padding H (blockBytes H + digestBytes H))
 
+-- the steps of HMAC: a key block into the chain that starts a hash; a text after `before` bytes, with its padding, into a chain;
+-- the digest block of the inner chain into the outer one
+abbrev pub keyStep : Masked → Count → ℕ → Sharing → Draw Sharing
+keyStep M n c key = M .compress n (publics n (M .standard .start)) (keyed (M .standard) n c key)
+
+abbrev pub textStep : Masked → Count → ℕ → Bytes → Sharing → Draw Sharing
+textStep M n before text h = let W = ending (M .standard) before text in blocks M n (length W / 16) (publics n W) h
+
+abbrev pub digestStep : Masked → Count → Sharing → Sharing → Draw Sharing
+digestStep M n inner outer = M .compress n outer (inner ++ publics n (digestPadding (M .standard)))
+
 -- HMAC compresses the inner key block, the message blocks, the outer key block, the digest block. The inner digest stays in shares.
 unfoldable pub hmacShares : Masked → Count → Sharing → Bytes → Draw Sharing
 hmacShares M n key text ws at =
-    let H = M .standard in
-    let W = ending H (blockBytes H) text in
-    let i = M .compress n (publics n (H .start)) (keyed H n 0x36 key) ws at in
-    let d = blocks M n (length W / 16) (publics n W) (i .0) ws (i .1) in
-    let o = M .compress n (publics n (H .start)) (keyed H n 0x5c key) ws (d .1) in
-    M .compress n (o .0) (d .0 ++ publics n (digestPadding H)) ws (o .1)
+    let i = keyStep M n 0x36 key ws at in
+    let d = textStep M n (blockBytes (M .standard)) text (i .0) ws (i .1) in
+    let o = keyStep M n 0x5c key ws (d .1) in
+    digestStep M n (d .0) (o .0) ws (o .1)
 
 -- Only the tag is opened
+abbrev pub tagOf : Hash → Count → Sharing → Bytes
+tagOf H n digest = allBytes (H .wordBytes) (openWords n (chainWords H) digest)
+
 unfoldable pub hmacTag : Masked → Count → Sharing → Bytes → Draw Bytes
 hmacTag M n key text ws at =
-    let H = M .standard in
     let t = hmacShares M n key text ws at in
-    (allBytes (H .wordBytes) (openWords n (chainWords H) (t .0)), t .1)
+    (tagOf (M .standard) n (t .0), t .1)

@@ -10,5 +10,6 @@ pub mod Sha1
 pub mod Hmac
 pub mod Counts
 pub mod Calls
+pub mod Stream
 pub mod Outcome
 pub mod Table

@@ -2,7 +2,7 @@
 use Prim.Native.Nat.{ℕ, zero, suc}
 use mathlib.Core.Bool.{Bool, true, false}
 use mathlib.Core.List.{List, [], _∷_}
-use lib.Dec.{eqb}
+use lib.Dec.{eqb, leb}
 
 -- the largest share count
 abbrev pub largest : ℕ
@@ -26,6 +26,10 @@ both false b = false
 -- the share counts that calls take: 1, 2, 4 and 8
 unfoldable pub allowed : ℕ → Bool
 allowed n = either (eqb n 1) (either (eqb n 2) (either (eqb n 4) (eqb n largest)))
+
+-- a state that feed and finish take, else number 6: not after finish, of an allowed share count, and not past the limit
+unfoldable pub fit : ℕ → ℕ → ℕ → Bool
+fit n bytes finished = both (eqb finished 0) (both (allowed n) (leb bytes longestMessage))
 
 -- what there is afterwards: at number 0 what was done, else what a refusal leaves
 abbrev pub settled : {A : Type 0} → ℕ → A → A → A

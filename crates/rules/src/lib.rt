@@ -57,3 +57,30 @@ pub struct Compressed {
     pub drawn: usize,
     pub chain: Chain,
 }
+
+// What is carried from piece to piece of a message: the share count, how many bytes were fed so far, a mark that is not 0 once
+// the tag was handed out, the chains after the inner and after the outer key block, and the bytes of the block that is not yet
+// full, the first `bytes` mod 64 of `tail`.
+#[repr(C)]
+pub struct State {
+    pub n: usize,
+    pub bytes: usize,
+    pub finished: u32,
+    pub inner: Chain,
+    pub outer: Chain,
+    pub tail: [u8; BLOCK_BYTES],
+}
+
+// What start, feed and finish hand back: the number, how many words were drawn, and the state.
+#[repr(C)]
+pub struct Streamed {
+    pub number: u32,
+    pub drawn: usize,
+    pub state: State,
+}
+
+// What became of a piece: taken, with how many words were drawn; or refused, with the number.
+pub enum Fed {
+    Taken(usize),
+    Refused(u32),
+}

@@ -1,33 +1,18 @@
 -- so many compressions, each of what one draws, where the message is not too long; the product fits
-use Prim.Native.Nat.{ℕ, _-_, _*_, _≤_}
-use mathlib.Core.Path.{ap, _∙_}
-use native.Mathlib.Nat.{mul-le-mul}
+use mathlib.Core.Path.{_∙_}
 use native.Mathlib.Omega.{arith}
 use borrow.Author.Needs.{needs}
 use lib.Dec.{leb}
-use Rattle.rules.specs.declared.Answer.{Answer}
 use Rattle.rules.specs.Numbers.{longestMessage}
 use Rattle.rules.specs.Standard.{SHA1}
 use Rattle.rules.specs.Counts.{compressDraws, compressions}
-use Rattle.rules.proofs.Sizes.{compress-count}
-use Rattle.numbers.proofs.Tests.{query-blocks, told-below}
+use Rattle.numbers.proofs.Tests.{query-blocks, compressions-fit}
 use Rattle.numbers.proofs.hmac_words.Statement.{statement}
 use Rattle.numbers.proofs.hmac_words.Tie as tie
 
--- what one compression draws at the largest share count
-abbrev most : ℕ
-most = 292320
-
-at : (n : ℕ) → 5220 * (n * (n - 1)) ≤ most → compressDraws 32 n ≤ most
-at n h = rw (compress-count n) h
-
 mul-answer : tie.Need-mul-answer
 mul-answer c =
-    let words = c .before .before .compress-words in
-    let told = told-below (compressDraws 32) (c .before .before .before .args .n) most (at 1 (omega arith)) (at 2 (omega arith))
-    (at 4 (omega arith)) (at 8 (omega arith)) in
-    let each : words .result .drawn ≤ most = rw (ap (λ (q : Answer). q .drawn) (words .ensures)) at told in
-    omega (arith, mul-le-mul (c .before .compressions .ensures .0) each)
+    omega (arith, compressions-fit _ _ (c .before .before .compress-words .ensures) _ (c .before .compressions .ensures .0))
 
 returns : tie.Need-returns
 returns c =

@@ -1,0 +1,118 @@
+-- Streaming: a tag while the message comes in pieces, over any hash in shares. Start, feed a piece of any length, and finish, each
+-- with words of its own; the state is handed in and out.
+use Prim.Native.Nat.{ℕ, _+_, _-_, _*_, _/_, _%_}
+use mathlib.Core.Bool.{Bool}
+use mathlib.Core.List.{List, [], _∷_, _++_}
+use lib.Dec.{eqb, leb}
+use lib.ListN.{length, take, drop, replicate}
+use Rattle.rules.specs.declared.Answer.{Answer}
+use Rattle.rules.specs.declared.Chain.{Chain}
+use Rattle.rules.specs.declared.State.{State}
+use Rattle.rules.specs.declared.Streamed.{Streamed}
+use Rattle.rules.specs.declared.Fed.{Fed}
+use Rattle.rules.specs.declared.Fed.the-variants.{Taken, Refused}
+use Rattle.rules.specs.Supply.{Draw, Count, Supply, Sharing}
+use Rattle.rules.specs.Numbers.{longestMessage, allowed, fit, Test, test, settled}
+use Rattle.rules.specs.Hash.{Bytes, Hash, blockBytes, chainWords, digestBytes, wordsOf}
+use Rattle.rules.specs.Sha1.{publics}
+use Rattle.rules.specs.Hmac.{Masked, blocks, keyStep, textStep, digestStep, tagOf}
+use Rattle.rules.specs.Counts.{startDraws, feedDraws, finishDraws}
+use Rattle.rules.specs.Calls.{call, query}
+
+-- ---- the state
+-- what is read of it: the shares in use of a chain, and the bytes of the block that is not yet full
+abbrev pub inUse : Hash → State → Chain → Sharing
+inUse H s chain = take (chainWords H * s .n) (chain .shares)
+
+abbrev pub waiting : Hash → State → Bytes
+waiting H s = take (s .bytes % blockBytes H) (s .tail)
+
+-- a state made anew: unused words of both chains and unfilled bytes of the tail are 0
+abbrev pub filled : ℕ → List ℕ → List ℕ
+filled room x = x ++ replicate (room - length x) 0
+
+unfoldable pub state : Count → ℕ → Sharing → Sharing → Bytes → State
+state n bytes inner outer tail =
+    record {
+      n = n;
+      bytes = bytes;
+      finished = 0;
+      inner = record { shares = filled 40 inner };
+      outer = record { shares = filled 40 outer };
+      tail = filled 64 tail;
+    }
+
+-- ---- the rules
+-- start: the inner key block, then the outer one
+unfoldable pub start : Masked → Count → Sharing → Draw State
+start M n key ws at =
+    let i = keyStep M n 0x36 key ws at in
+    let o = keyStep M n 0x5c key ws (i .1) in
+    (state n 0 (i .0) (o .0) [], o .1)
+
+-- feed: the bytes that wait and then the piece; every block that becomes full is compressed at once, in order; the rest waits
+unfoldable pub feed : Masked → State → Bytes → Draw State
+feed M s piece ws at =
+    let H = M .standard in
+    let text = waiting H s ++ piece in
+    let full = length text / blockBytes H in
+    let W = wordsOf (H .wordBytes) (full * 16) text in
+    let c = blocks M (s .n) full (publics (s .n) W) (inUse H s (s .inner)) ws at in
+    let rest = drop (full * blockBytes H) text in
+    (state (s .n) (s .bytes + length piece) (c .0) (inUse H s (s .outer)) rest, c .1)
+
+-- finish: the padding over the whole length with the key block counted, into the inner chain; then the digest block into the
+-- outer one; the tag is opened
+unfoldable pub finish : Masked → State → Draw Bytes
+finish M s ws at =
+    let H = M .standard in
+    let before = (s .bytes / blockBytes H + 1) * blockBytes H in
+    let d = textStep M (s .n) before (waiting H s) (inUse H s (s .inner)) ws at in
+    let t = digestStep M (s .n) (d .0) (inUse H s (s .outer)) ws (d .1) in
+    (tagOf H (s .n) (t .0), t .1)
+
+-- ---- the calls
+abbrev pub isFit : State → Bool
+isFit s = fit (s .n) (s .bytes) (s .finished)
+
+abbrev pub streamed : Answer → State → Streamed
+streamed answer s = record { number = answer .number; drawn = answer .drawn; state = s }
+
+-- a refused start gives a state of zeros
+unfoldable pub startCall : Masked → Count → Sharing → Supply → Streamed
+startCall M n key ws =
+    let o = call (test 1 (allowed n) ∷ test 2 (eqb (length key) (16 * n)) ∷ []) (start M n key) (state 0 0 [] [] []) ws in
+    streamed (o .0) (o .1)
+
+-- a refused piece hands back the state; the limit counts all pieces
+unfoldable pub feedCall : Masked → State → Bytes → Supply → Streamed
+feedCall M s piece ws =
+    let o = call (test 6 (isFit s) ∷ test 4 (leb (s .bytes + length piece) longestMessage) ∷ []) (feed M s piece) s ws in
+    streamed (o .0) (o .1)
+
+-- what is handed back inside, number and count for every case; the state stands beside it
+abbrev pub fedAnswer : Fed → Answer
+fedAnswer (Taken drawn) = record { number = 0; drawn = drawn }
+fedAnswer (Refused number) = record { number = number; drawn = 0 }
+
+-- an accepted finish only sets the finished mark; a refused one hands back the state
+abbrev pub closed : State → State
+closed s =
+    record { n = s .n; bytes = s .bytes; finished = 1; inner = s .inner; outer = s .outer; tail = s .tail }
+
+unfoldable pub finishCall : Masked → State → Bytes → Supply → Streamed × Bytes
+finishCall M s came ws =
+    let tests = test 6 (isFit s) ∷ test 3 (eqb (length came) (digestBytes (M .standard))) ∷ [] in
+    let o = call tests (finish M s) came ws in
+    (streamed (o .0) (settled (o .0 .number) (closed s) s), o .1)
+
+-- ---- queries: how many words a call will draw
+abbrev pub startWords : Masked → Count → Answer
+startWords M n = query (test 1 (allowed n) ∷ []) (startDraws M n)
+
+abbrev pub feedWords : Masked → State → ℕ → Answer
+feedWords M s l =
+    query (test 6 (isFit s) ∷ test 4 (leb (s .bytes + l) longestMessage) ∷ []) (feedDraws M (s .n) (s .bytes) l)
+
+abbrev pub finishWords : Masked → State → Answer
+finishWords M s = query (test 6 (isFit s) ∷ []) (finishDraws M (s .n) (s .bytes))

@@ -1,0 +1,255 @@
+// A tag while the message comes in pieces: start, feed and finish, each proved to be its rule, over the steps of crate `hmac`.
+ghost use mathlib.Core.Path.{_≡_};
+ghost use mathlib.Core.Bool.{true};
+ghost use mathlib.Core.List.{[], _∷_, _++_};
+ghost use Prim.Native.Nat.{_+_, _*_, _/_, _%_, _≤_, _<_};
+ghost use lib.ListN.{length, getD, take, drop};
+ghost use Rattle.rules.specs.Numbers.{largest, longestMessage};
+ghost use Rattle.rules.specs.Hash.{wordsOf};
+ghost use Rattle.rules.specs.Sha1.{publics, used};
+ghost use Rattle.rules.specs.Hmac.{blocks};
+ghost use Rattle.rules.specs.Counts.{startDraws, feedDraws, finishDraws};
+ghost use Rattle.rules.specs.Stream.{filled, state, start, feed, finish, isFit, streamed, feedCall, fedAnswer, closed};
+ghost use Rattle.hash.specs.Hash.{hash};
+ghost use Rattle.padding.specs.Whole.{Hashable};
+use hmac::INNER;
+use hmac::OUTER;
+use numbers::DONE;
+use rules::BLOCK_BYTES;
+use rules::CHAIN;
+use rules::CHAIN_WORDS;
+use rules::Chain;
+use rules::Fed;
+use rules::State;
+use sha1::Stepped;
+
+// ---- states
+
+// A chain with 0 in its unused words.
+fn cleared(n: usize, chain: Chain) -> Chain
+    requires { ⌜ n ≤ largest ⌝ }
+    ensures { λ r. ⌜ r .shares ≡ filled 40 (used n (chain .shares)) ⌝ }
+{
+    let m = CHAIN_WORDS * n;
+    let all = chain.shares;
+    let mut made = [0u32; CHAIN];
+    let front = &mut made[0..m];
+    shares::copy(&all[0..m], front);
+    Chain { shares: made }
+}
+
+// A state made anew, of a tail that has 0 in its unfilled bytes.
+fn state_of(n: usize, bytes: usize, inner: Chain, outer: Chain, tail: [u8; BLOCK_BYTES]) -> State
+    requires { ⌜ n ≤ largest ⌝ }
+    ensures { λ r. ⌜ (r .n ≡ n) × (r .bytes ≡ bytes) × (r .finished ≡ 0) × (r .tail ≡ tail)
+        × (r .inner .shares ≡ filled 40 (used n (inner .shares))) × (r .outer .shares ≡ filled 40 (used n (outer .shares))) ⌝ }
+{
+    State {
+        n: n,
+        bytes: bytes,
+        finished: 0,
+        inner: cleared(n, inner),
+        outer: cleared(n, outer),
+        tail: tail,
+    }
+}
+
+// A state of zeros, which a refused start hands back.
+pub fn zeros() -> State
+    ensures { λ r. ⌜ r ≡ state 0 0 [] [] [] ⌝ }
+{
+    let none = Chain { shares: [0u32; CHAIN] };
+    state_of(0, 0, none, none, [0u8; BLOCK_BYTES])
+}
+
+// ---- start
+
+// A state, and the place after the words that went into it.
+pub struct Moved {
+    pub state: State,
+    pub at: usize,
+}
+
+// The inner key block, then the outer one, from the word at `at` on.
+pub fn start_at(n: usize, key: &[u32], words: &[u32], at: usize) -> Moved
+    requires { ⌜ (0 < n) × (n ≤ largest) × (length (now key) ≡ 16 * n) × (at + startDraws hash n ≤ length (now words)) ⌝ }
+    ensures { λ r. ⌜ start hash n (now (key .entry)) (now (words .entry)) at ≡ (r .state, r .at) ⌝ }
+{
+    let inner = hmac::key_step(n, INNER, key, words, at);
+    let outer = hmac::key_step(n, OUTER, key, words, inner.at);
+    Moved {
+        state: state_of(n, 0, inner.chain, outer.chain, [0u8; BLOCK_BYTES]),
+        at: outer.at,
+    }
+}
+
+// ---- feed
+
+// Byte i of the bytes that wait and then the piece.
+fn byte_of(tail: &[u8], piece: &[u8], i: usize) -> u8
+    requires { ⌜ i < length (now tail) + length (now piece) ⌝ }
+    ensures { λ r. ⌜ r ≡ getD (now (tail .entry) ++ now (piece .entry)) i 0 ⌝ }
+{
+    let m = tail.len();
+    if i < m {
+        return tail[i];
+    }
+    piece[i - m]
+}
+
+// z becomes the bytes that wait and then the piece, from byte p on.
+fn gather(tail: &[u8], piece: &[u8], p: usize, z: &mut [u8])
+    requires { ⌜ p + length (now z) ≤ length (now tail) + length (now piece) ⌝ }
+    ensures { λ _. ⌜ now (z .exit) ≡ take (length (now (z .entry))) (drop p (now (tail .entry) ++ now (piece .entry))) ⌝ }
+{
+    let mut i = 0;
+    while i < z.len() {
+        z[i] = byte_of(tail, piece, p + i);
+        i += 1;
+    }
+}
+
+// Block j of the bytes that wait and then the piece into a chain, from the word at `at` on.
+fn full_block(
+    n: usize,
+    chain: Chain,
+    tail: &[u8],
+    piece: &[u8],
+    j: usize,
+    words: &[u32],
+    at: usize,
+) -> Stepped
+    requires { ⌜ (0 < n) × (n ≤ largest) × (64 * j + 64 ≤ length (now tail) + length (now piece))
+        × (at + hash .draws n ≤ length (now words)) ⌝ }
+    ensures { λ r. ⌜ (hash .compress n (used n (chain .shares))
+        (publics n (wordsOf 4 16 (drop (64 * j) (now (tail .entry) ++ now (piece .entry))))) (now (words .entry)) at
+        ≡ (used n (r .chain .shares), r .at))
+        × (r .at ≡ at + hash .draws n) ⌝ }
+{
+    let mut block = [0u8; BLOCK_BYTES];
+    gather(tail, piece, BLOCK_BYTES * j, &mut block);
+    hmac::block_step(n, chain, 0, &block, 0, words, at)
+}
+
+// Every full block of the bytes that wait and then the piece into a chain, in order, from the word at `at` on.
+fn full_blocks(
+    n: usize,
+    chain: Chain,
+    tail: &[u8],
+    piece: &[u8],
+    words: &[u32],
+    at: usize,
+) -> Stepped
+    requires { ⌜ (0 < n) × (n ≤ largest) × Hashable (length (now tail) + length (now piece))
+        × (at + (length (now tail) + length (now piece)) / 64 * hash .draws n ≤ length (now words)) ⌝ }
+    ensures { λ r. ⌜ (let text = now (tail .entry) ++ now (piece .entry) in
+        blocks hash n (length text / 64) (publics n (wordsOf 4 (length text / 64 * 16) text)) (used n (chain .shares)) (now (words .entry)) at
+        ≡ (used n (r .chain .shares), r .at)) ⌝ }
+{
+    let count = (tail.len() + piece.len()) / BLOCK_BYTES;
+    let mut c = chain;
+    let mut p = at;
+    let mut j = 0;
+    while j < count {
+        let next = full_block(n, c, tail, piece, j, words, p);
+        c = next.chain;
+        p = next.at;
+        j += 1;
+    }
+    Stepped { chain: c, at: p }
+}
+
+// The state after a piece, from the word at `at` on.
+fn feed_at(state: State, piece: &[u8], words: &[u32], at: usize) -> Moved
+    requires { ⌜ (isFit state ≡ true) × (state .bytes + length (now piece) ≤ longestMessage)
+        × (at + feedDraws hash (state .n) (state .bytes) (length (now piece)) ≤ length (now words)) ⌝ }
+    ensures { λ r. ⌜ feed hash state (now (piece .entry)) (now (words .entry)) at ≡ (r .state, r .at) ⌝ }
+{
+    let bytes = state.bytes;
+    let waiting = bytes % BLOCK_BYTES;
+    let all = state.tail;
+    let tail = &all[0..waiting];
+    let made = full_blocks(state.n, state.inner, tail, piece, words, at);
+    let after = bytes + piece.len();
+    let left = after % BLOCK_BYTES;
+    let mut rest = [0u8; BLOCK_BYTES];
+    let front = &mut rest[0..left];
+    gather(tail, piece, waiting + piece.len() - left, front);
+    Moved {
+        state: state_of(state.n, after, made.chain, state.outer, rest),
+        at: made.at,
+    }
+}
+
+// What became of a piece, and the state beside it.
+pub struct Feeding {
+    pub fed: Fed,
+    pub state: State,
+}
+
+// A piece of any length fed to any state, with any words lent.
+pub fn feed(state: State, piece: &[u8], words: &[u32]) -> Feeding
+    ensures { λ r. ⌜ feedCall hash state (now (piece .entry)) (now (words .entry)) ≡ streamed (fedAnswer (r .fed)) (r .state) ⌝ }
+{
+    let need = numbers::feed_words(state, piece.len()).drawn;
+    let number = numbers::feeding(state, piece.len(), need, words.len());
+    if number != DONE {
+        return Feeding {
+            fed: Fed::Refused(number),
+            state: state,
+        };
+    }
+    let made = feed_at(state, piece, words, 0);
+    let next = made.state;
+    Feeding {
+        fed: Fed::Taken(made.at),
+        state: next,
+    }
+}
+
+// The number of a piece that was refused.
+pub fn refusal(fed: Fed) -> u32
+    ensures { λ r. ⌜ r ≡ fedAnswer fed .number ⌝ }
+{
+    match fed {
+        Fed::Taken(_) => DONE,
+        Fed::Refused(number) => number,
+    }
+}
+
+// ---- finish
+
+// The rest of the message with its padding, then the digest block, from the word at `at` on: the tag, and the place after.
+pub fn finish_at(state: State, tag: &mut [u8], words: &[u32], at: usize) -> usize
+    requires { ⌜ (isFit state ≡ true) × (length (now tag) ≡ 20)
+        × (at + finishDraws hash (state .n) (state .bytes) ≤ length (now words)) ⌝ }
+    ensures { λ r. ⌜ finish hash state (now (words .entry)) at ≡ (now (tag .exit), r) ⌝ }
+{
+    let n = state.n;
+    let bytes = state.bytes;
+    let waiting = bytes % BLOCK_BYTES;
+    let all = state.tail;
+    let tail = &all[0..waiting];
+    let before = (bytes / BLOCK_BYTES + 1) * BLOCK_BYTES;
+    let inner = hmac::text_step(n, state.inner, before, tail, words, at);
+    let last = hmac::digest_step(n, inner.chain, state.outer, words, inner.at);
+    hmac::tag_bytes(n, last.chain, tag);
+    last.at
+}
+
+// A state after its tag was handed out.
+pub fn finished(state: State) -> State
+    ensures { λ r. ⌜ r ≡ closed state ⌝ }
+{
+    let inner = state.inner;
+    let outer = state.outer;
+    let tail = state.tail;
+    State {
+        n: state.n,
+        bytes: state.bytes,
+        finished: 1,
+        inner: inner,
+        outer: outer,
+        tail: tail,
+    }
+}
