@@ -13,23 +13,25 @@
  * Words: the random words that a call draws are lent as a slice, used from its start and never written. Each must be fresh: no word
  * serves two draws. Words after those drawn have no influence. The queries at the end say how many words a call draws.
  *
- * Numbers handed back; where several apply, the least is given:
+ * Numbers handed back; where several apply, 6 comes before all others, and of the others the least is given:
  *   0  done
  *   1  the share count is not 1, 2, 4 or 8
  *   2  an input slice has not exactly the length that the share count asks for
  *   3  an output slice or record has not exactly its length
  *   4  the message is over 4,096 bytes, or the key given for splitting is over 64
  *   5  fewer words are lent than the call draws
- * A refusal reports 0 words drawn and leaves every slice as it came.
+ *   6  the state is finished, its share count is not 1, 2, 4 or 8, or its byte count is over 4,096
+ * A refusal reports 0 words drawn and leaves every slice as it came. Where a call takes a state, 1 is never given.
  *
  * What stays behind: a call leaves shares on the stack below its caller and in registers, and flamivorse_split_key
- * bytes of the plain key. flamivorse_clear_stack clears both. What a program keeps in its own variables is its own to
- * clear.
+ * bytes of the plain key. flamivorse_clear_stack clears both. What a program keeps in its own variables, a state among
+ * them, is its own to clear.
  *
- * By value: a chain that is passed or handed back is copied by the caller's compiler, in registers as wide as it
- * likes, so that all shares of a word may stand in one, and copies stay in the caller's frame. No call can prevent
- * that. Where it matters, use flamivorse_hmac_sha1: its chains never leave the archive, which copies one share at a
- * time.
+ * By value: a chain or a state that is passed or handed back is copied by the caller's compiler, in registers as wide
+ * as it likes, so that all shares of a word may stand in one, and copies stay in the caller's frame. No call can
+ * prevent that. A program that makes such a call in a function of its own, and calls flamivorse_clear_stack when that
+ * function has returned, clears these copies. Where the registers matter, use flamivorse_hmac_sha1: its chains never
+ * leave the archive, which copies one share at a time.
  */
 #ifndef FLAMIVORSE_H
 #define FLAMIVORSE_H
@@ -52,6 +54,22 @@ typedef struct { uint32_t shares[40]; } flamivorse_chain;
 
 /* The number, how many words were drawn, and the chain after; where refused, the chain exactly as given. */
 typedef struct { uint32_t number; uint64_t drawn; flamivorse_chain chain; } flamivorse_compressed;
+
+/* What is carried from piece to piece of a message. It is a value: each copy can be fed or finished by itself, with
+ * words of its own, and the one from before a finish can be finished again. Both chains come from the key, and whoever
+ * has them can make tags under it: a program clears its copies of a state as it clears the key's shares. */
+typedef struct {
+    size_t n;                  /* the share count */
+    uint64_t bytes;            /* how many bytes of the message were fed so far */
+    uint32_t finished;         /* 0; 1 after an accepted finish; anything but 0 counts as finished */
+    flamivorse_chain inner;    /* after the inner key block and the full blocks of the message */
+    flamivorse_chain outer;    /* after the outer key block */
+    uint8_t tail[64];          /* the bytes of the block that is not yet full: the first bytes % 64 */
+} flamivorse_state;
+
+/* The number, how many words were drawn, and the state after; where refused, the state exactly as given, of a start
+ * zeros in every field. */
+typedef struct { uint32_t number; uint64_t drawn; flamivorse_state state; } flamivorse_streamed;
 
 /* Two shares, after Goubin. g is a fresh random word, used once. No step of the source, taken alone, tells anything of x. */
 
@@ -126,8 +144,31 @@ flamivorse_compressed flamivorse_sha1_compress(size_t n, flamivorse_chain chain,
 flamivorse_answer flamivorse_hmac_sha1(size_t n, const uint32_t *key, size_t key_len, const uint8_t *message, size_t message_len,
                                        uint8_t *tag, size_t tag_len, const uint32_t *words, size_t words_len);
 
-/* How many words a call draws: number 0 and the count, or the number with which the call refuses such an n (1) or length (4), and 0.
- * Lending as many words is always enough, and one word less is always refused with 5. */
+/* HMAC-SHA-1 of a message that comes in pieces: start, a feed for each piece, finish. However the message is cut, with
+ * empty pieces too, its tag is the one of flamivorse_hmac_sha1, and all calls together draw as many words as that one,
+ * in another order. Any state may be given: one that is not refused with 6 is taken as it stands. */
+
+/* The state before the first byte, under a key of 16n words as flamivorse_split_key writes it: the inner key block is
+ * compressed, then the outer one. Draws the words of 2 compressions. Refuses with 1, 2 (the key), 5. */
+flamivorse_streamed flamivorse_hmac_sha1_start(size_t n, const uint32_t *key, size_t key_len,
+                                               const uint32_t *words, size_t words_len);
+
+/* The state after one more piece, of any length: each block that becomes full is compressed at once, and the bytes
+ * after it wait in the tail. Draws the words of a compression for each such block. Chain words from place 5n on and
+ * tail bytes from bytes % 64 on are not looked at, and are 0 in an accepted answer, of an empty piece too.
+ * Refuses with 6, 4 (all pieces together would be over 4,096 bytes), 5, in this order. */
+flamivorse_streamed flamivorse_hmac_sha1_feed(flamivorse_state state, const uint8_t *piece, size_t piece_len,
+                                              const uint32_t *words, size_t words_len);
+
+/* The tag of all that was fed: writes it opened, of 20 bytes. Nothing else is opened. Draws the words of 2
+ * compressions, or of 3 where bytes % 64 is over 55. The state handed back is the one given but for finished, which is
+ * 1: nothing of it is cleared. Refuses with 6, 3 (the tag), 5, in this order. */
+flamivorse_streamed flamivorse_hmac_sha1_finish(flamivorse_state state, uint8_t *tag, size_t tag_len,
+                                                const uint32_t *words, size_t words_len);
+
+/* How many words a call draws: number 0 and the count, or the number with which the call refuses such an n (1), length
+ * (4) or state (6), and 0. Lending as many words is always enough, and one word less is always refused with 5. Of a
+ * state only n, bytes and finished are looked at, so that its chains need not be handed to a query. */
 flamivorse_answer flamivorse_split_words(size_t n);
 flamivorse_answer flamivorse_refresh_words(size_t n);
 flamivorse_answer flamivorse_expand_words(size_t n);
@@ -138,6 +179,9 @@ flamivorse_answer flamivorse_b2a_words(size_t n);
 flamivorse_answer flamivorse_split_key_words(size_t n, size_t key_len);
 flamivorse_answer flamivorse_sha1_compress_words(size_t n);
 flamivorse_answer flamivorse_hmac_sha1_words(size_t n, size_t message_len);
+flamivorse_answer flamivorse_hmac_sha1_start_words(size_t n);
+flamivorse_answer flamivorse_hmac_sha1_feed_words(flamivorse_state state, size_t piece_len);
+flamivorse_answer flamivorse_hmac_sha1_finish_words(flamivorse_state state);
 
 /* Clears what calls have left behind: 8,192 bytes of stack below its caller, more than any call takes, and every
  * register that a call may change. To be called from the function that made the calls, after the last that saw a
