@@ -26,7 +26,8 @@ impl fmt::Display for Drawn {
     }
 }
 
-/// Why a call was refused. Where several reasons apply, the one with the least number is given.
+/// Why a call was refused. Where several reasons apply, number 6 comes before all others, and of the
+/// others the least is given.
 ///
 /// ```
 /// use flamivorse::{open_xor, Refusal};
@@ -48,6 +49,9 @@ pub enum Refusal {
     TooLong,
     /// Number 5: fewer random words are lent than the call draws.
     SupplyShort,
+    /// Number 6: the state is finished, its share count is not 1, 2, 4 or 8, or its byte count is over
+    /// 4,096.
+    StateUnfit,
     /// Another number. No call hands one back; it would mean an archive of another version.
     Unknown(u32),
 }
@@ -62,6 +66,7 @@ impl Refusal {
             Refusal::OutputLength => 3,
             Refusal::TooLong => 4,
             Refusal::SupplyShort => 5,
+            Refusal::StateUnfit => 6,
             Refusal::Unknown(number) => number,
         }
     }
@@ -77,6 +82,9 @@ impl fmt::Display for Refusal {
             Refusal::OutputLength => "an output has not exactly its length",
             Refusal::TooLong => "the message is over 4,096 bytes, or the key is over 64",
             Refusal::SupplyShort => "there are fewer random words than the call draws",
+            Refusal::StateUnfit => {
+                "the state is finished, or its share count or byte count is not allowed"
+            }
             Refusal::Unknown(number) => {
                 return write!(f, "the archive gave the unknown number {number}")
             }
@@ -95,6 +103,7 @@ pub(crate) fn done(number: u32) -> Result<(), Refusal> {
         3 => Refusal::OutputLength,
         4 => Refusal::TooLong,
         5 => Refusal::SupplyShort,
+        6 => Refusal::StateUnfit,
         other => Refusal::Unknown(other),
     })
 }
@@ -114,7 +123,7 @@ mod tests {
         for number in (1..10).chain([u32::MAX]) {
             let refusal = done(number).unwrap_err();
             assert_eq!(refusal.number(), number);
-            assert_eq!(matches!(refusal, Refusal::Unknown(_)), number > 5);
+            assert_eq!(matches!(refusal, Refusal::Unknown(_)), number > 6);
             assert!(!refusal.to_string().is_empty());
         }
     }

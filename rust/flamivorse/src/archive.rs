@@ -70,6 +70,66 @@ pub(crate) struct Compressed {
     pub(crate) chain: Chain,
 }
 
+/// What is carried from piece to piece of a message that is tagged as it comes, cleared when dropped.
+///
+/// Any state may be given to a call: one that is not refused ([`Refusal::StateUnfit`]) is taken as
+/// it stands. Both chains come from the key, and whoever has them can make tags under it.
+#[repr(C)]
+#[derive(Clone)]
+pub struct State {
+    /// The share count.
+    pub n: usize,
+    /// How many bytes of the message were fed so far.
+    pub bytes: u64,
+    /// 0; 1 after an accepted finish. Anything but 0 counts as finished.
+    pub finished: u32,
+    /// The chain after the inner key block and the full blocks of the message.
+    pub inner: Chain,
+    /// The chain after the outer key block.
+    pub outer: Chain,
+    /// The bytes of the block that is not yet full: the first `bytes` modulo 64. The others are not
+    /// looked at, and are 0 after an accepted start or feed.
+    pub tail: [u8; 64],
+}
+
+impl Default for State {
+    /// Zeros, as a state is before it is started.
+    fn default() -> State {
+        State {
+            n: 0,
+            bytes: 0,
+            finished: 0,
+            inner: Chain { shares: [0; 40] },
+            outer: Chain { shares: [0; 40] },
+            tail: [0; 64],
+        }
+    }
+}
+
+impl Drop for State {
+    fn drop(&mut self) {
+        self.tail.zeroize();
+    }
+}
+
+impl fmt::Debug for State {
+    fn fmt(&self, f: &mut fmt::Formatter<'_>) -> fmt::Result {
+        f.debug_struct("State")
+            .field("n", &self.n)
+            .field("bytes", &self.bytes)
+            .field("finished", &self.finished)
+            .finish_non_exhaustive()
+    }
+}
+
+/// `flamivorse_streamed`
+#[repr(C)]
+pub(crate) struct Streamed {
+    pub(crate) number: u32,
+    pub(crate) drawn: u64,
+    pub(crate) state: State,
+}
+
 /// Makes calls that see a secret, and then clears what they left: on the stack, their own frame
 /// among it, and in registers.
 pub(crate) fn cleared<T>(calls: impl FnOnce() -> T) -> T {
@@ -150,6 +210,10 @@ extern "C" {
     pub(crate) fn flamivorse_sha1_compress(n: usize, chain: Chain, block: *const u32, block_len: usize, words: *const u32, words_len: usize) -> Compressed;
     pub(crate) fn flamivorse_hmac_sha1(n: usize, key: *const u32, key_len: usize, message: *const u8, message_len: usize, tag: *mut u8, tag_len: usize, words: *const u32, words_len: usize) -> Answer;
 
+    pub(crate) fn flamivorse_hmac_sha1_start(n: usize, key: *const u32, key_len: usize, words: *const u32, words_len: usize) -> Streamed;
+    pub(crate) fn flamivorse_hmac_sha1_feed(state: State, piece: *const u8, piece_len: usize, words: *const u32, words_len: usize) -> Streamed;
+    pub(crate) fn flamivorse_hmac_sha1_finish(state: State, tag: *mut u8, tag_len: usize, words: *const u32, words_len: usize) -> Streamed;
+
     pub(crate) fn flamivorse_split_words(n: usize) -> Answer;
     pub(crate) fn flamivorse_refresh_words(n: usize) -> Answer;
     pub(crate) fn flamivorse_expand_words(n: usize) -> Answer;
@@ -160,6 +224,9 @@ extern "C" {
     pub(crate) fn flamivorse_split_key_words(n: usize, key_len: usize) -> Answer;
     pub(crate) fn flamivorse_sha1_compress_words(n: usize) -> Answer;
     pub(crate) fn flamivorse_hmac_sha1_words(n: usize, message_len: usize) -> Answer;
+    pub(crate) fn flamivorse_hmac_sha1_start_words(n: usize) -> Answer;
+    pub(crate) fn flamivorse_hmac_sha1_feed_words(state: State, piece_len: usize) -> Answer;
+    pub(crate) fn flamivorse_hmac_sha1_finish_words(state: State) -> Answer;
 
     pub(crate) fn flamivorse_clear_stack();
 }

@@ -18,6 +18,21 @@
 //! # Ok::<(), Box<dyn std::error::Error>>(())
 //! ```
 //!
+//! A message that comes in pieces is fed to a [`Stream`] as it comes, so that neither it nor all its
+//! words are ever in memory at once:
+//!
+//! ```
+//! # use flamivorse::{split_key_words, Key, Supply};
+//! # use std::io;
+//! # let (mut supply, mut log) = (Supply::from_system()?, &b"07:30 door opened"[..]);
+//! # let key = Key::split(4, b"sixteen byte key", supply.lend(split_key_words(4, 16)?)?)?;
+//! let mut stream = key.start(supply.lend(key.start_words()?)?)?;
+//! io::copy(&mut log, &mut stream.writer(&mut supply))?;
+//! let tag = stream.finish(supply.lend(stream.finish_words()?)?)?;
+//! assert_eq!(tag[..4], [0xf6, 0x7d, 0x6c, 0x12]);
+//! # Ok::<(), Box<dyn std::error::Error>>(())
+//! ```
+//!
 //! # Shares
 //!
 //! The share count n is 1, 2, 4 or 8. Boolean shares of a word give it by XOR, arithmetic shares by
@@ -25,8 +40,8 @@
 //! w·n + i.
 //!
 //! Each call that sees shares or a secret clears, when it is done, what it left on the stack and in
-//! registers. What a program keeps in its own variables is its own to clear; a [`Key`], a [`Chain`]
-//! and a [`Supply`] clear themselves.
+//! registers. What a program keeps in its own variables is its own to clear; a [`Key`], a
+//! [`Stream`], a [`State`], a [`Chain`] and a [`Supply`] clear themselves.
 //!
 //! # Words
 //!
@@ -44,11 +59,12 @@ mod answer;
 mod archive;
 mod hmac;
 mod shares;
+mod stream;
 mod supply;
 mod two;
 
 pub use answer::{Drawn, Refusal};
-pub use archive::Chain;
+pub use archive::{Chain, State};
 pub use hmac::{
     hmac_sha1, hmac_sha1_words, sha1_compress, sha1_compress_words, split_key, split_key_words,
     Key, KEY_LIMIT, MESSAGE_LIMIT, TAG_BYTES,
@@ -56,6 +72,10 @@ pub use hmac::{
 pub use shares::{
     a2b, a2b_words, add, add_words, and, and_words, b2a, b2a_words, expand, expand_words, open_sum,
     open_xor, refresh, refresh_words, split, split_words,
+};
+pub use stream::{
+    hmac_sha1_feed, hmac_sha1_feed_words, hmac_sha1_finish, hmac_sha1_finish_words,
+    hmac_sha1_start, hmac_sha1_start_words, Failure, Stream, Writer,
 };
 pub use supply::{Bytes, Source, Supply};
 pub use two::{a2b_2, a2b_2_record, b2a_2, b2a_2_record, A2B_2_STEPS, B2A_2_STEPS};

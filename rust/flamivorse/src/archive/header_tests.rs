@@ -36,6 +36,8 @@ fn rust_type(c: &str) -> String {
         "flamivorse_opened" => "Opened",
         "flamivorse_chain" => "Chain",
         "flamivorse_compressed" => "Compressed",
+        "flamivorse_state" => "State",
+        "flamivorse_streamed" => "Streamed",
         other => panic!("{other}: no such type in the header's interface"),
     }
     .into()
@@ -144,6 +146,8 @@ fn layouts() -> String {
         layout!("flamivorse_opened", Opened: number, word),
         layout!("flamivorse_chain", Chain: shares),
         layout!("flamivorse_compressed", Compressed: number, drawn, chain),
+        layout!("flamivorse_state", State: n, bytes, finished, inner, outer, tail),
+        layout!("flamivorse_streamed", Streamed: number, drawn, state),
     ]
     .concat()
 }

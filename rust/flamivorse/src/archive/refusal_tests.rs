@@ -1,5 +1,5 @@
 //! What the archive hands back beside the number of a refusal, which the safe calls do not show: no
-//! words drawn, and the opened word 0.
+//! words drawn, the opened word 0, and the state as it was given, of a start zeros.
 
 use super::*;
 
@@ -110,9 +110,111 @@ fn on_keys_and_messages() {
     }
 }
 
+/// A state with something in every place, those that are not used among them.
+fn full(n: usize, bytes: u64, finished: u32) -> State {
+    State {
+        n,
+        bytes,
+        finished,
+        inner: Chain { shares: [7; 40] },
+        outer: Chain { shares: [8; 40] },
+        tail: [9; 64],
+    }
+}
+
+/// All fields of a state.
+type Fields = (usize, u64, u32, [u32; 40], [u32; 40], [u8; 64]);
+
+fn fields(state: &State) -> Fields {
+    let (inner, outer) = (state.inner.shares, state.outer.shares);
+    let (n, bytes, finished) = (state.n, state.bytes, state.finished);
+    (n, bytes, finished, inner, outer, state.tail)
+}
+
+/// A refusal by this number that drew nothing and hands this state back.
+fn refused_with(answer: Streamed, number: u32, state: &State) {
+    assert_eq!((answer.number, answer.drawn), (number, 0));
+    assert_eq!(fields(&answer.state), fields(state));
+}
+
+#[test]
+fn starts() {
+    let none: &[u32] = &[];
+    for (n, places, number) in [(3, 47, 1), (2, 31, 2), (2, 33, 2), (2, 32, 5)] {
+        let key = &many()[..places];
+        // SAFETY: both are slices of Rust's, and nothing is written.
+        let answer =
+            unsafe { flamivorse_hmac_sha1_start(n, key.as_ptr(), places, none.as_ptr(), 0) };
+        refused_with(answer, number, &State::default());
+    }
+}
+
+/// States that are unfit, by their share count, byte count and mark.
+const UNFIT: [(usize, u64, u32); 8] = [
+    (0, 0, 0),
+    (3, 0, 0),
+    (usize::MAX, 0, 0),
+    (2, 4097, 0),
+    (2, u64::MAX, 0),
+    (2, 0, 1),
+    (2, 0, u32::MAX),
+    (3, 4097, 1),
+];
+
+#[test]
+fn feeds() {
+    let unfit = UNFIT.map(|(n, bytes, finished)| (full(n, bytes, finished), 4097, 6));
+    let others = [(0, 4097, 4), (1, 4096, 4), (4096, 1, 4), (0, 64, 5)];
+    let others = others.map(|(bytes, length, number)| (full(2, bytes, 0), length, number));
+    for (state, length, number) in unfit.into_iter().chain(others) {
+        let (piece, none) = ([0; 4097], [0u32; 0]);
+        // SAFETY: both are slices of Rust's, and nothing is written.
+        let answer = unsafe {
+            flamivorse_hmac_sha1_feed(state.clone(), piece.as_ptr(), length, none.as_ptr(), 0)
+        };
+        refused_with(answer, number, &state);
+    }
+}
+
+#[test]
+fn finishes() {
+    let unfit = UNFIT.map(|(n, bytes, finished)| (full(n, bytes, finished), 19, 6));
+    let others = [(19, 3), (21, 3), (0, 3), (20, 5)];
+    let others = others.map(|(size, number)| (full(2, 4096, 0), size, number));
+    for (state, size, number) in unfit.into_iter().chain(others) {
+        let (mut tag, none) = ([5; 21], [0u32; 0]);
+        // SAFETY: both are slices of Rust's that do not overlap.
+        let answer = unsafe {
+            flamivorse_hmac_sha1_finish(state.clone(), tag.as_mut_ptr(), size, none.as_ptr(), 0)
+        };
+        refused_with(answer, number, &state);
+        assert_eq!(tag, [5; 21]);
+    }
+}
+
+#[test]
+fn queries_on_states() {
+    for (n, bytes, finished) in UNFIT {
+        let state = full(n, bytes, finished);
+        refused(query!(flamivorse_hmac_sha1_finish_words(state.clone())), 6);
+        refused(query!(flamivorse_hmac_sha1_feed_words(state, 4097)), 6);
+    }
+    for (bytes, length) in [
+        (0, 4097),
+        (1, 4096),
+        (4096, 1),
+        (1, usize::MAX),
+        (4096, usize::MAX),
+    ] {
+        let state = full(2, bytes, 0);
+        refused(query!(flamivorse_hmac_sha1_feed_words(state, length)), 4);
+    }
+}
+
 #[test]
 fn queries() {
     for n in [0, 3, 1 << 31, usize::MAX] {
+        refused(query!(flamivorse_hmac_sha1_start_words(n)), 1);
         refused(query!(flamivorse_split_words(n)), 1);
         refused(query!(flamivorse_refresh_words(n)), 1);
         refused(query!(flamivorse_expand_words(n)), 1);
