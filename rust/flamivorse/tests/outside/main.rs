@@ -8,6 +8,7 @@
 mod against_second;
 mod reference;
 mod refusals;
+mod streams;
 mod tags;
 mod two_shares;
 

@@ -10,14 +10,14 @@ use hmac::{Hmac, Mac};
 use sha1::Sha1;
 
 /// The tag by RustCrypto.
-fn outside_tag(key: &[u8], message: &[u8]) -> [u8; TAG_BYTES] {
+pub fn outside_tag(key: &[u8], message: &[u8]) -> [u8; TAG_BYTES] {
     let mut hmac = Hmac::<Sha1>::new_from_slice(key).expect("HMAC takes any key");
     hmac.update(message);
     hmac.finalize().into_bytes().into()
 }
 
 /// The tag by the archive at n shares, with exactly the words that the queries tell.
-fn tag(
+pub fn tag(
     n: usize,
     key: &[u8],
     message: &[u8],
@@ -66,7 +66,7 @@ fn against_rustcrypto() {
 }
 
 /// The SHA-1 cases of RFC 2202 that the key limit allows: key, message, tag.
-fn rfc2202() -> [(Vec<u8>, Vec<u8>, &'static str); 5] {
+pub fn rfc2202() -> [(Vec<u8>, Vec<u8>, &'static str); 5] {
     [
         (
             vec![0x0b; 20],

@@ -1,0 +1,335 @@
+//! Messages that come in pieces: however a message is cut, it has the tag of the one-call form and of
+//! RustCrypto, and the same end state; a refusal leaves a stream as it was; pieces fed with words from
+//! a supply, and written.
+
+use crate::report;
+use crate::tags::{outside_tag, rfc2202, tag};
+use flamivorse::{
+    hmac_sha1_feed, hmac_sha1_finish, hmac_sha1_words, sha1_compress_words, split_key_words, Drawn,
+    Failure, Key, Refusal, Source, State, Stream, Supply, KEY_LIMIT, MESSAGE_LIMIT, TAG_BYTES,
+};
+use fuzz::calls::COUNTS;
+use fuzz::random::Random;
+use std::cell::Cell;
+use std::io::{self, Write};
+
+/// All fields of a state.
+type Fields = (usize, u64, u32, [u32; 40], [u32; 40], [u8; 64]);
+
+fn fields(state: &State) -> Fields {
+    let (inner, outer) = (state.inner.shares, state.outer.shares);
+    let (n, bytes, finished) = (state.n, state.bytes, state.finished);
+    (n, bytes, finished, inner, outer, state.tail)
+}
+
+/// Seeded words for the calls of one message, and how many were drawn.
+struct Words {
+    random: Random,
+    drawn: usize,
+}
+
+impl Words {
+    fn new(seed: u64) -> Words {
+        let random = Random::new(seed);
+        Words { random, drawn: 0 }
+    }
+
+    /// Makes a call with exactly the words that its query tells; first with one word less, which is
+    /// refused and must change nothing.
+    fn lent<T>(
+        &mut self,
+        count: Result<Drawn, Refusal>,
+        mut call: impl FnMut(&[u32]) -> Result<T, Refusal>,
+    ) -> T {
+        let words = self.random.words(count.expect("a fit state").words());
+        if let Some((_, fewer)) = words.split_last() {
+            assert_eq!(call(fewer).err(), Some(Refusal::SupplyShort));
+        }
+        self.drawn += words.len();
+        call(&words).expect("exactly these words")
+    }
+
+    fn start(&mut self, key: &Key) -> Stream {
+        self.lent(key.start_words(), |words| key.start(words))
+    }
+
+    fn feed(&mut self, stream: &mut Stream, piece: &[u8]) {
+        let count = stream.feed_words(piece.len());
+        self.lent(count, |words| stream.feed(piece, words));
+    }
+
+    fn finish(&mut self, stream: &mut Stream) -> [u8; TAG_BYTES] {
+        self.lent(stream.finish_words(), |words| stream.finish(words))
+    }
+}
+
+/// A key of n shares.
+fn split(n: usize, key: &[u8]) -> Key {
+    let count = split_key_words(n, key.len());
+    Words::new(500).lent(count, |words| Key::split(n, key, words))
+}
+
+/// The tag of a message in pieces of these lengths, its state before the finish, and how many words
+/// were drawn. The words are always the same.
+fn in_pieces(key: &Key, message: &[u8], lengths: &[usize]) -> ([u8; TAG_BYTES], Fields, usize) {
+    let mut words = Words::new(501);
+    let mut stream = words.start(key);
+    let mut rest = message;
+    for &length in lengths {
+        let (piece, after) = rest.split_at(length);
+        words.feed(&mut stream, piece);
+        rest = after;
+    }
+    assert!(rest.is_empty());
+    let end = fields(stream.state());
+    (words.finish(&mut stream), end, words.drawn)
+}
+
+/// Compares every one of these cuts with the others, with the one-call form and with RustCrypto.
+fn compare(n: usize, key: &[u8], message: &[u8], cuts: &[Vec<usize>]) -> usize {
+    let whole = in_pieces(&split(n, key), message, &[message.len()]);
+    assert_eq!(whole.0, outside_tag(key, message));
+    assert_eq!(tag(n, key, message, &mut Random::new(502)), Ok(whole.0));
+    let count = hmac_sha1_words(n, message.len()).map(Drawn::words);
+    assert_eq!(count, Ok(whole.2));
+    for lengths in cuts {
+        let again = in_pieces(&split(n, key), message, lengths);
+        assert!(again == whole, "{lengths:?} at n = {n}");
+    }
+    1 + cuts.len()
+}
+
+/// Every cut in two, empty pieces among them, and single bytes.
+fn every_cut(length: usize) -> Vec<Vec<usize>> {
+    let in_two = (0..=length).map(|first| vec![first, length - first]);
+    in_two.chain([vec![1; length]]).collect()
+}
+
+/// Pieces of one length; the last may be shorter.
+fn equal_pieces(length: usize, piece: usize) -> Vec<usize> {
+    let mut lengths = vec![piece; length / piece];
+    lengths.push(length % piece);
+    lengths
+}
+
+/// Pieces of any length, mostly short, a third of them empty.
+fn random_pieces(length: usize, random: &mut Random) -> Vec<usize> {
+    let (mut lengths, mut rest) = (vec![], length);
+    while rest > 0 {
+        let most = [0, 130, rest][random.below(3)];
+        lengths.push(random.below(most + 1).min(rest));
+        rest -= lengths[lengths.len() - 1];
+    }
+    lengths
+}
+
+#[test]
+fn every_cut_of_rfc_2202() {
+    let mut cases = 0;
+    for n in COUNTS {
+        for (key, message, _) in rfc2202() {
+            cases += compare(n, &key, &message, &every_cut(message.len()));
+        }
+    }
+    report(cases, "cuts of the messages of RFC 2202");
+}
+
+/// At each share count lengths around the edges of blocks and at random, to the limit.
+#[test]
+fn cuts_of_random_messages() {
+    let mut random = Random::new(503);
+    let mut cases = 0;
+    for (n, messages) in COUNTS.into_iter().zip([40, 30, 8, 2]) {
+        let any = (0..messages).map(|_| random.below(MESSAGE_LIMIT + 1));
+        let lengths: Vec<usize> = [0, 55, 56, 63, 64, 65, 120, MESSAGE_LIMIT]
+            .into_iter()
+            .chain(any)
+            .collect();
+        for length in lengths {
+            let key_length = random.below(KEY_LIMIT + 1);
+            let (key, message) = (random.bytes(key_length), random.bytes(length));
+            let mut cuts: Vec<_> = [1, 63, 64, 65]
+                .map(|piece| equal_pieces(length, piece))
+                .into();
+            cuts.extend((0..3).map(|_| random_pieces(length, &mut random)));
+            cases += compare(n, &key, &message, &cuts);
+        }
+    }
+    report(cases, "cuts of random messages");
+}
+
+/// What is not used of a state has no say. An accepted feed makes it 0, of an empty piece too; a
+/// finish keeps it.
+#[test]
+fn unused_places() {
+    let mut random = Random::new(504);
+    for n in COUNTS {
+        let mut words = Words::new(505);
+        let mut stream = words.start(&split(n, b"key"));
+        words.feed(&mut stream, &random.bytes(100));
+        let mut junk = stream.state().clone();
+        junk.inner.shares[5 * n..].fill_with(|| random.word());
+        junk.outer.shares[5 * n..].fill_with(|| random.word());
+        junk.tail[36..].fill_with(|| random.word() as u8);
+        let before = fields(&junk);
+
+        let mut cleared = junk.clone();
+        assert_eq!(
+            hmac_sha1_feed(&mut cleared, &[], &[]).map(Drawn::words),
+            Ok(0)
+        );
+        assert!(fields(&cleared) == fields(stream.state()));
+
+        let (mut tag, mut other) = ([0; TAG_BYTES], [0; TAG_BYTES]);
+        let lent = random.words(stream.finish_words().expect("a fit state").words());
+        hmac_sha1_finish(&mut junk, &mut tag, &lent).expect("exactly these words");
+        hmac_sha1_finish(&mut cleared, &mut other, &lent).expect("exactly these words");
+        assert_eq!(tag, other);
+        junk.finished = 0;
+        assert!(fields(&junk) == before);
+    }
+    report(4 * 2, "states with something in their unused places");
+}
+
+/// After a finish every call is refused, and the state stays. A copy from before can be finished
+/// again, with other words, and fed further.
+#[test]
+fn after_a_finish() {
+    let message = [7; 70];
+    for n in COUNTS {
+        let mut words = Words::new(506);
+        let mut stream = words.start(&split(n, b"key"));
+        words.feed(&mut stream, &message);
+        let mut before = stream.clone();
+        assert_eq!(words.finish(&mut stream), outside_tag(b"key", &message));
+
+        let end = fields(stream.state());
+        let refused = Some(Refusal::StateUnfit);
+        assert_eq!(stream.feed_words(0).err(), refused);
+        assert_eq!(stream.finish_words().err(), refused);
+        for piece in [&[][..], &[0], &[0; MESSAGE_LIMIT + 1]] {
+            assert_eq!(stream.feed(piece, &[]).err(), refused);
+        }
+        assert_eq!(stream.finish(&[]).err(), refused);
+        assert!(fields(stream.state()) == end);
+
+        let again = words.finish(&mut before.clone());
+        assert_eq!(again, outside_tag(b"key", &message));
+        words.feed(&mut before, &message);
+        let further = words.finish(&mut before);
+        assert_eq!(further, outside_tag(b"key", &[7; 140]));
+    }
+    report(4 * 9, "calls after a finish");
+}
+
+/// The limit counts all pieces. What would pass it is refused whole, and what fits is taken after it.
+#[test]
+fn limit_of_all_pieces() {
+    let message = Random::new(507).bytes(MESSAGE_LIMIT);
+    let (most, rest) = message.split_at(4000);
+    for n in COUNTS {
+        let mut words = Words::new(508);
+        let mut stream = words.start(&split(n, b"key"));
+        let long = stream.feed(&[0; MESSAGE_LIMIT + 1], &[]);
+        assert_eq!(long, Err(Refusal::TooLong));
+        words.feed(&mut stream, most);
+        for length in [rest.len() + 1, MESSAGE_LIMIT, usize::MAX] {
+            assert_eq!(stream.feed_words(length), Err(Refusal::TooLong));
+        }
+        let long = stream.feed(&[0; 97], &[]);
+        assert_eq!(long, Err(Refusal::TooLong));
+        words.feed(&mut stream, rest);
+        assert_eq!(stream.feed(&[0], &[]), Err(Refusal::TooLong));
+        words.feed(&mut stream, &[]);
+        let tag = words.finish(&mut stream);
+        assert_eq!(tag, outside_tag(b"key", &message));
+    }
+    report(4 * 8, "pieces at the limit");
+}
+
+/// A supply of seeded words that ends after so many of them, and tells how many were asked for at
+/// once at most.
+fn ending(mut left: usize, most: &Cell<usize>) -> Supply<impl Source<Error = io::Error> + '_> {
+    let mut random = Random::new(509);
+    Supply::new(move |words: &mut [u32]| {
+        most.set(most.get().max(words.len()));
+        left = left
+            .checked_sub(words.len())
+            .ok_or(io::ErrorKind::UnexpectedEof)?;
+        words.fill_with(|| random.word());
+        Ok(())
+    })
+}
+
+/// A stream at n shares that has so many bytes already.
+fn begun(n: usize, bytes: &[u8]) -> Stream {
+    let mut words = Words::new(510);
+    let mut stream = words.start(&split(n, b"key"));
+    words.feed(&mut stream, bytes);
+    stream
+}
+
+/// A supply lends the words of one block at a time, and all together they are those of one feed. One
+/// that ends before leaves the stream as it was.
+#[test]
+fn fed_by_blocks() {
+    let message = Random::new(511).bytes(300);
+    let pieces = [
+        (0, 0),
+        (0, 63),
+        (0, 64),
+        (1, 63),
+        (1, 200),
+        (63, 1),
+        (100, 200),
+    ];
+    for n in COUNTS {
+        for (first, length) in pieces {
+            let (before, piece) = (&message[..first], &message[first..first + length]);
+            let (mut stream, most) = (begun(n, before), Cell::new(0));
+            let need = stream.feed_words(length).expect("a fit state");
+            if need.words() > 0 {
+                let failed = stream.feed_by_blocks(piece, &mut ending(need.words() - 1, &most));
+                assert!(matches!(failed, Err(Failure::Source(_))));
+                assert!(fields(stream.state()) == fields(begun(n, before).state()));
+            }
+            let drawn = stream.feed_by_blocks(piece, &mut ending(need.words(), &most));
+            assert!(matches!(drawn, Ok(drawn) if drawn == need));
+            assert!(most.get() <= sha1_compress_words(n).map_or(0, Drawn::words));
+
+            let (mut whole, words) = (begun(n, before), Random::new(509).words(need.words()));
+            whole.feed(piece, &words).expect("exactly these words");
+            assert!(fields(stream.state()) == fields(whole.state()));
+        }
+    }
+    report(4 * pieces.len(), "pieces fed by blocks");
+}
+
+/// What is copied to a stream is fed. A refusal and a failed source are errors of their own kind, no
+/// word is lent for a refusal, and nothing of such a write is taken.
+#[test]
+fn written() {
+    let mut cases = 0;
+    for n in COUNTS {
+        for length in [0, 1, 64, 200, MESSAGE_LIMIT] {
+            let (message, most) = (Random::new(512).bytes(length), Cell::new(0));
+            let (mut stream, mut supply) = (begun(n, &[]), ending(usize::MAX, &most));
+            let copied = io::copy(&mut &message[..], &mut stream.writer(&mut supply));
+            assert_eq!(copied.expect("within the limits"), length as u64);
+
+            let mut none = Supply::new(|_: &mut [u32]| -> io::Result<()> { panic!("lent") });
+            let rest = vec![0; MESSAGE_LIMIT + 1 - length];
+            let refused = stream.writer(&mut none).write_all(&rest).unwrap_err();
+            let inner = refused.get_ref().and_then(|inner| inner.downcast_ref());
+            assert_eq!(inner, Some(&Refusal::TooLong));
+            if n > 1 && rest.len() > 64 {
+                let failed = stream.writer(&mut ending(0, &most)).write(&rest[1..]);
+                assert_eq!(failed.unwrap_err().kind(), io::ErrorKind::UnexpectedEof);
+            }
+            let tag = Words::new(513).finish(&mut stream);
+            assert_eq!(tag, outside_tag(b"key", &message));
+            cases += 1;
+        }
+    }
+    report(cases, "messages written");
+}
