@@ -3,12 +3,12 @@
 use crate::arguments::Options;
 use crate::problem::Problem;
 use flamivorse::{
-    hmac_sha1_words, split_key_words, Bytes, Drawn, Key, Refusal, Supply, KEY_LIMIT, MESSAGE_LIMIT,
-    TAG_BYTES,
+    hmac_sha1_words, split_key_words, Bytes, Drawn, Failure, Key, Refusal, Supply, KEY_LIMIT,
+    MESSAGE_LIMIT, TAG_BYTES,
 };
 use std::ffi::{OsStr, OsString};
 use std::fs::File;
-use std::io::{self, Read};
+use std::io::{self, ErrorKind, Read, Take};
 use zeroize::Zeroizing;
 
 /// Words from a file; the operating system's generator is one.
@@ -30,13 +30,50 @@ impl Words {
         Ok(Words { name, supply })
     }
 
-    /// Lends as many words as the count says. A file that ends before is the refusal of a short
-    /// supply.
+    /// Lends as many words as the count says.
     fn lend(&mut self, count: Drawn) -> Result<&[u32], Problem> {
-        self.supply.lend(count).map_err(|error| match error.kind() {
-            io::ErrorKind::UnexpectedEof => Problem::refused(&self.name, Refusal::SupplyShort),
-            _ => Problem::file(&self.name, error),
+        let lent = self.supply.lend(count);
+        lent.map_err(|error| missing(&self.name, error))
+    }
+}
+
+/// Why words could not be had. A file that ends before is the refusal of a short supply.
+fn missing(name: &OsStr, error: io::Error) -> Problem {
+    match error.kind() {
+        ErrorKind::UnexpectedEof => Problem::refused(name, Refusal::SupplyShort),
+        _ => Problem::file(name, error),
+    }
+}
+
+/// A log that is read as it comes. At most one byte over the limit is read of it: enough for the
+/// library to refuse it.
+struct Log<'a> {
+    name: &'a OsStr,
+    file: Take<Box<dyn Read>>,
+    piece: Zeroizing<Vec<u8>>,
+}
+
+impl Log<'_> {
+    /// Opens a log, or standard input where its name is `-`.
+    fn open(name: &OsStr) -> Result<Log<'_>, Problem> {
+        let file = open(name).map_err(|error| Problem::file(name, error))?;
+        let most = MESSAGE_LIMIT + 1;
+        Ok(Log {
+            name,
+            file: file.take(most as u64),
+            piece: Zeroizing::new(vec![0; most]),
         })
+    }
+
+    /// What there is to read by now, or else what comes first. Nothing is the log's end.
+    fn read_piece(&mut self) -> Result<&[u8], Problem> {
+        let length = loop {
+            match self.file.read(&mut self.piece) {
+                Err(error) if error.kind() == ErrorKind::Interrupted => {}
+                read => break read.map_err(|error| Problem::file(self.name, error))?,
+            }
+        };
+        Ok(&self.piece[..length])
     }
 }
 
@@ -62,13 +99,25 @@ impl Tagger {
         Ok(Tagger { key, words })
     }
 
-    /// Reads a log, standard input where its name is `-`, and gives its tag.
+    /// Reads a log, standard input where its name is `-`, until it ends, and gives its tag.
     pub fn tag(&mut self, name: &OsStr) -> Result<[u8; TAG_BYTES], Problem> {
         let refused = |refusal| Problem::refused(name, refusal);
-        let log = open(name).and_then(|file| read(file, MESSAGE_LIMIT));
-        let log = log.map_err(|error| Problem::file(name, error))?;
-        let count = hmac_sha1_words(self.key.share_count(), log.len()).map_err(refused)?;
-        self.key.tag(&log, self.words.lend(count)?).map_err(refused)
+        let mut log = Log::open(name)?;
+        let mut piece = log.read_piece()?;
+        // No words are spent on a log that is already too long.
+        hmac_sha1_words(self.key.share_count(), piece.len()).map_err(refused)?;
+        let count = self.key.start_words().map_err(refused)?;
+        let mut stream = self.key.start(self.words.lend(count)?).map_err(refused)?;
+        while !piece.is_empty() {
+            let fed = stream.feed_by_blocks(piece, &mut self.words.supply);
+            fed.map_err(|failure| match failure {
+                Failure::Refused(refusal) => refused(refusal),
+                Failure::Source(error) => missing(&self.words.name, error),
+            })?;
+            piece = log.read_piece()?;
+        }
+        let count = stream.finish_words().map_err(refused)?;
+        stream.finish(self.words.lend(count)?).map_err(refused)
     }
 }
 
