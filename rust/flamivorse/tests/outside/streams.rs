@@ -185,6 +185,7 @@ fn unused_places() {
         hmac_sha1_finish(&mut junk, &mut tag, &lent).expect("exactly these words");
         hmac_sha1_finish(&mut cleared, &mut other, &lent).expect("exactly these words");
         assert_eq!(tag, other);
+        assert_eq!(junk.finished, 1);
         junk.finished = 0;
         assert!(fields(&junk) == before);
     }
@@ -269,22 +270,17 @@ fn begun(n: usize, bytes: &[u8]) -> Stream {
     stream
 }
 
+/// How many bytes a stream has before a piece, and the piece's length.
+#[rustfmt::skip]
+const PIECES: [(usize, usize); 7] = [(0, 0), (0, 63), (0, 64), (1, 63), (1, 200), (63, 1), (100, 200)];
+
 /// A supply lends the words of one block at a time, and all together they are those of one feed. One
 /// that ends before leaves the stream as it was.
 #[test]
 fn fed_by_blocks() {
     let message = Random::new(511).bytes(300);
-    let pieces = [
-        (0, 0),
-        (0, 63),
-        (0, 64),
-        (1, 63),
-        (1, 200),
-        (63, 1),
-        (100, 200),
-    ];
     for n in COUNTS {
-        for (first, length) in pieces {
+        for (first, length) in PIECES {
             let (before, piece) = (&message[..first], &message[first..first + length]);
             let (mut stream, most) = (begun(n, before), Cell::new(0));
             let need = stream.feed_words(length).expect("a fit state");
@@ -302,7 +298,7 @@ fn fed_by_blocks() {
             assert!(fields(stream.state()) == fields(whole.state()));
         }
     }
-    report(4 * pieces.len(), "pieces fed by blocks");
+    report(4 * PIECES.len(), "pieces fed by blocks");
 }
 
 /// What is copied to a stream is fed. A refusal and a failed source are errors of their own kind, no
