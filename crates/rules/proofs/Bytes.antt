@@ -79,6 +79,16 @@ number-append zero x y h = refl
 number-append (suc m) x y h =
     ap₂ (λ a b. a * 256 + b) (number-append m x y (omega arith)) (List·getD-append x y 0 m (omega arith))
 
+-- words read no bytes past their own
+pub words-front : (size m : ℕ) (x y : List ℕ) → m * size ≤ length x → wordsOf size m (x ++ y) ≡ wordsOf size m x
+unfolding wordsOf
+words-front size zero x y h = refl
+words-front size (suc m) x y h =
+    let room : size ≤ length x = omega (arith, suc-mul m size) in
+    rw (number-append size x y room, drop-append-le size x y room)
+    (ap (λ (t : List ℕ). numberOf size x ∷ t)
+    (words-front size m (drop size x) y (rw (length-drop size x) (omega (arith, suc-mul m size)))))
+
 pub words-append : (size m p : ℕ) (x y : List ℕ) → length x ≡ m * size
     → wordsOf size (m + p) (x ++ y) ≡ wordsOf size m x ++ wordsOf size p y
 unfolding wordsOf

@@ -97,19 +97,26 @@ module _ (H : Hash) (proper : Proper H) where
   unfolding blocks
   blocks-one W h l = ap (H .compress h) (take-all 16 W (omega arith))
 
-  -- ---- a block and more: the first block, then the rest with its padding
+  -- ---- whole blocks and more: the words of the blocks, then the rest with its padding
+  pub ending-front : (m before : ℕ) (x y : List ℕ) → length x ≡ m * B
+      → ending H before (x ++ y) ≡ wordsOf size (m * 16) x ++ ending H (before + m * B) y
+  unfolding ending ended
+  ending-front m before x y front =
+      let r = y ++ padding H (before + m * B + length y) in
+      let counted : before + length (x ++ y) ≡ before + m * B + length y = omega (arith, length-append x y, front) in
+      let whole : x ++ y ++ padding H (before + length (x ++ y)) ≡ x ++ r =
+      append-assoc x y _ ∙ ap (λ t. x ++ (y ++ padding H t)) counted in
+      let sized : m * B ≡ m * 16 * size = sym (mul-assoc m 16 size) in
+      let many : length (x ++ r) / size ≡ m * 16 + length r / size =
+      ap (λ t. t / size) (length-append x r ∙ ap (λ t. t + length r) (front ∙ sized ∙ mul-comm (m * 16) size))
+      ∙ mul-add-div (proper .some) (m * 16) (length r) in
+      rw (whole, many) (words-append size (m * 16) (length r / size) x r (front ∙ sized))
+
   module _ (x y : List ℕ) (block : length x ≡ B) where
     front-words : ending H 0 (x ++ y) ≡ wordsOf size 16 x ++ ending H B y
-    unfolding ending ended
     front-words =
-        let r = y ++ padding H (B + length y) in
-        let counted : length (x ++ y) ≡ B + length y = length-append x y ∙ ap (λ t. t + length y) block in
-        let whole : x ++ y ++ padding H (0 + length (x ++ y)) ≡ x ++ r =
-        append-assoc x y _ ∙ ap (λ t. x ++ (y ++ padding H t)) (zero-add (length (x ++ y)) ∙ counted) in
-        let many : length (x ++ r) / size ≡ 16 + length r / size =
-        ap (λ t. t / size) (length-append x r ∙ ap (λ t. t + length r) (block ∙ mul-comm 16 size))
-        ∙ mul-add-div (proper .some) 16 (length r) in
-        rw (whole, many) (words-append size 16 (length r / size) x r block)
+        let one : 1 * B ≡ B = omega arith in
+        ending-front 1 0 x y (block ∙ sym one) ∙ ap (λ t. wordsOf size 16 x ++ ending H t y) (zero-add (1 * B) ∙ one)
 
     pub digest-front : (W : List ℕ) → W ≡ ending H B y
         → digest H (x ++ y) ≡ allBytes size (blocks H (length W / 16) W (H .compress (H .start) (wordsOf size 16 x)))

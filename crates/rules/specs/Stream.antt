@@ -1,6 +1,6 @@
 -- Streaming: a tag while the message comes in pieces, over any hash in shares. Start, feed a piece of any length, and finish, each
 -- with words of its own; the state is handed in and out.
-use Prim.Native.Nat.{ℕ, _+_, _-_, _*_, _/_, _%_}
+use Prim.Native.Nat.{ℕ, zero, suc, _+_, _-_, _*_, _/_, _%_}
 use mathlib.Core.Bool.{Bool}
 use mathlib.Core.List.{List, [], _∷_, _++_}
 use lib.Dec.{eqb, leb}
@@ -15,7 +15,7 @@ use Rattle.rules.specs.Supply.{Draw, Count, Supply, Sharing}
 use Rattle.rules.specs.Numbers.{longestMessage, allowed, fit, Test, test, settled}
 use Rattle.rules.specs.Hash.{Bytes, Hash, blockBytes, chainWords, digestBytes, wordsOf}
 use Rattle.rules.specs.Sha1.{publics}
-use Rattle.rules.specs.Hmac.{Masked, blocks, keyStep, textStep, digestStep, tagOf}
+use Rattle.rules.specs.Hmac.{Masked, keyStep, textStep, digestStep, tagOf}
 use Rattle.rules.specs.Counts.{startDraws, feedDraws, finishDraws}
 use Rattle.rules.specs.Calls.{call, query}
 
@@ -51,13 +51,19 @@ start M n key ws at =
     (state n 0 (i .0) (o .0) [], o .1)
 
 -- feed: the bytes that wait and then the piece; every block that becomes full is compressed at once, in order; the rest waits
+unfoldable pub fullBlocks : Masked → Count → ℕ → Bytes → Sharing → Draw Sharing
+fullBlocks M n zero text h ws at = (h, at)
+fullBlocks M n (suc m) text h ws at =
+    let H = M .standard in
+    let c = M .compress n h (publics n (wordsOf (H .wordBytes) 16 text)) ws at in
+    fullBlocks M n m (drop (blockBytes H) text) (c .0) ws (c .1)
+
 unfoldable pub feed : Masked → State → Bytes → Draw State
 feed M s piece ws at =
     let H = M .standard in
     let text = waiting H s ++ piece in
     let full = length text / blockBytes H in
-    let W = wordsOf (H .wordBytes) (full * 16) text in
-    let c = blocks M (s .n) full (publics (s .n) W) (inUse H s (s .inner)) ws at in
+    let c = fullBlocks M (s .n) full text (inUse H s (s .inner)) ws at in
     let rest = drop (full * blockBytes H) text in
     (state (s .n) (s .bytes + length piece) (c .0) (inUse H s (s .outer)) rest, c .1)
 

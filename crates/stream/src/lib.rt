@@ -1,15 +1,13 @@
 // A tag while the message comes in pieces: start, feed and finish, each proved to be its rule, over the steps of crate `hmac`.
 ghost use mathlib.Core.Path.{_≡_};
-ghost use mathlib.Core.Bool.{true};
 ghost use mathlib.Core.List.{[], _∷_, _++_};
 ghost use Prim.Native.Nat.{_+_, _*_, _/_, _%_, _≤_, _<_};
 ghost use lib.ListN.{length, getD, take, drop};
 ghost use Rattle.rules.specs.Numbers.{largest, longestMessage};
 ghost use Rattle.rules.specs.Hash.{wordsOf};
 ghost use Rattle.rules.specs.Sha1.{publics, used};
-ghost use Rattle.rules.specs.Hmac.{blocks};
 ghost use Rattle.rules.specs.Counts.{startDraws, feedDraws, finishDraws};
-ghost use Rattle.rules.specs.Stream.{filled, state, start, feed, finish, isFit, streamed, feedCall, fedAnswer, closed};
+ghost use Rattle.rules.specs.Stream.{filled, state, start, fullBlocks, feed, finish, streamed, feedCall, fedAnswer, closed};
 ghost use Rattle.hash.specs.Hash.{hash};
 ghost use Rattle.padding.specs.Whole.{Hashable};
 use hmac::INNER;
@@ -28,7 +26,7 @@ use sha1::Stepped;
 // A chain with 0 in its unused words.
 fn cleared(n: usize, chain: Chain) -> Chain
     requires { ⌜ n ≤ largest ⌝ }
-    ensures { λ r. ⌜ r .shares ≡ filled 40 (used n (chain .shares)) ⌝ }
+    ensures { λ r. ⌜ r ≡ record { shares = filled 40 (used n (chain .shares)) } ⌝ }
 {
     let m = CHAIN_WORDS * n;
     let all = chain.shares;
@@ -41,8 +39,11 @@ fn cleared(n: usize, chain: Chain) -> Chain
 // A state made anew, of a tail that has 0 in its unfilled bytes.
 fn state_of(n: usize, bytes: usize, inner: Chain, outer: Chain, tail: [u8; BLOCK_BYTES]) -> State
     requires { ⌜ n ≤ largest ⌝ }
-    ensures { λ r. ⌜ (r .n ≡ n) × (r .bytes ≡ bytes) × (r .finished ≡ 0) × (r .tail ≡ tail)
-        × (r .inner .shares ≡ filled 40 (used n (inner .shares))) × (r .outer .shares ≡ filled 40 (used n (outer .shares))) ⌝ }
+    ensures { λ r. ⌜ r ≡ record {
+        n = n; bytes = bytes; finished = 0;
+        inner = record { shares = filled 40 (used n (inner .shares)) };
+        outer = record { shares = filled 40 (used n (outer .shares)) };
+        tail = tail } ⌝ }
 {
     State {
         n: n,
@@ -142,9 +143,9 @@ fn full_blocks(
 ) -> Stepped
     requires { ⌜ (0 < n) × (n ≤ largest) × Hashable (length (now tail) + length (now piece))
         × (at + (length (now tail) + length (now piece)) / 64 * hash .draws n ≤ length (now words)) ⌝ }
-    ensures { λ r. ⌜ (let text = now (tail .entry) ++ now (piece .entry) in
-        blocks hash n (length text / 64) (publics n (wordsOf 4 (length text / 64 * 16) text)) (used n (chain .shares)) (now (words .entry)) at
-        ≡ (used n (r .chain .shares), r .at)) ⌝ }
+    ensures { λ r. ⌜ fullBlocks hash n ((length (now (tail .entry)) + length (now (piece .entry))) / 64)
+        (now (tail .entry) ++ now (piece .entry)) (used n (chain .shares)) (now (words .entry)) at
+        ≡ (used n (r .chain .shares), r .at) ⌝ }
 {
     let count = (tail.len() + piece.len()) / BLOCK_BYTES;
     let mut c = chain;
@@ -161,7 +162,7 @@ fn full_blocks(
 
 // The state after a piece, from the word at `at` on.
 fn feed_at(state: State, piece: &[u8], words: &[u32], at: usize) -> Moved
-    requires { ⌜ (isFit state ≡ true) × (state .bytes + length (now piece) ≤ longestMessage)
+    requires { ⌜ (0 < state .n) × (state .n ≤ largest) × (state .bytes + length (now piece) ≤ longestMessage)
         × (at + feedDraws hash (state .n) (state .bytes) (length (now piece)) ≤ length (now words)) ⌝ }
     ensures { λ r. ⌜ feed hash state (now (piece .entry)) (now (words .entry)) at ≡ (r .state, r .at) ⌝ }
 {
@@ -221,7 +222,7 @@ pub fn refusal(fed: Fed) -> u32
 
 // The rest of the message with its padding, then the digest block, from the word at `at` on: the tag, and the place after.
 pub fn finish_at(state: State, tag: &mut [u8], words: &[u32], at: usize) -> usize
-    requires { ⌜ (isFit state ≡ true) × (length (now tag) ≡ 20)
+    requires { ⌜ (0 < state .n) × (state .n ≤ largest) × (state .bytes ≤ longestMessage) × (length (now tag) ≡ 20)
         × (at + finishDraws hash (state .n) (state .bytes) ≤ length (now words)) ⌝ }
     ensures { λ r. ⌜ finish hash state (now (words .entry)) at ≡ (now (tag .exit), r) ⌝ }
 {

@@ -1,0 +1,37 @@
+-- the blocks that are left, from here on, give what all of them give from the start
+use borrow.Author.Needs.{needs}
+use Prim.Native.Nat.{_+_, _-_, _*_, _/_, _≤_}
+use mathlib.Core.Path.{_≡_}
+use mathlib.Core.List.{_++_}
+use lib.ListN.{length, drop}
+use Rattle.rules.specs.Sha1.{used}
+use Rattle.rules.specs.Stream.{fullBlocks}
+use Rattle.hash.specs.Hash.{hash}
+use Rattle.hmac.proofs.Steps.{block-room}
+use Rattle.stream.proofs.Steps.{full-begin, full-next, full-end}
+use Rattle.stream.proofs.full_blocks.Statement.{statement}
+use Rattle.stream.proofs.full_blocks.Tie as tie
+
+abbrev Inv-loop : tie.InvT-loop
+Inv-loop n tail piece words at count c₀ p₀ j₀ c p j =
+    let text = tail ++ piece in
+    (j ≤ count) × (count ≡ (length tail + length piece) / 64) × (p ≡ at + j * hash .draws n)
+    × (fullBlocks hash n (count - j) (drop (64 * j) text) (used n (c .shares)) words p
+    ≡ fullBlocks hash n ((length tail + length piece) / 64) text (used n (c₀ .shares)) words at)
+
+abbrev μ-loop : tie.MeasureT-loop
+μ-loop n tail piece words at count c₀ p₀ j₀ c p j = count - j
+
+pub full-blocks-spec : {M : Type 1} → statement M
+full-blocks-spec =
+    tie.close
+    (tie.spec
+    Inv-loop
+    μ-loop
+    (λ c. search needs)
+    (λ c. (search needs, search needs, search needs, search full-begin))
+    (λ c κs. (search needs, search needs, search needs, search block-room))
+    (λ c. search needs)
+    (λ c. search needs)
+    (λ c. (search needs, search needs, search needs, search full-next))
+    (λ c. search full-end))
