@@ -8,7 +8,9 @@ use lib.Seq.{getD-append-add, getD-take, getD-drop, length-take-le}
 use Rattle.words.proofs.Stores.{filled-next, filled-end}
 use Rattle.rules.specs.Hash.{Hash, bytesOf, numberOf, wordsOf, zeros, padding, ended, ending}
 use Rattle.rules.specs.Standard.{SHA1}
-use Rattle.rules.proofs.Bytes.{pow-bytes, byte-of, length-bytes, length-words}
+use Rattle.rules.proofs.Bytes.{pow-bytes, byte-of}
+use Rattle.rules.proofs.Hashes.{ended-length, ending-length}
+use Rattle.rules.proofs.Tags.{sha1-proper}
 use Rattle.padding.specs.Whole.{blocksIn}
 
 abbrev H : Hash
@@ -99,15 +101,11 @@ word-made m bs i h ea eb ec ed er = er ∙ rw (ea, eb, ec, ed) (sym (word-of m b
 
 -- ---- the words of a text
 module _ (before : ℕ) (text : List ℕ) (aligned : before % 64 ≡ 0) where
-  length-ended : length (ended H before text) ≡ blocksIn (length text) * 64
-  unfolding ended padding
-  length-ended =
-      let z = zeros H (before + length text) in
-      simp (length-append, length-replicate, length-bytes) (omega (arith, whole before text 0 aligned))
+  length-ended : length (ended H before text) ≡ 64 * blocksIn (length text)
+  length-ended = ended-length H sha1-proper (before / 64) before (omega arith) text
 
-  length-ending : length (ending H before text) ≡ blocksIn (length text) * 16
-  unfolding ending
-  length-ending = length-words 4 (length (ended H before text) / 4) (ended H before text) ∙ omega (arith, length-ended)
+  length-ending : length (ending H before text) ≡ 16 * blocksIn (length text)
+  length-ending = ending-length H sha1-proper (before / 64) before (omega arith) text
 
   pub text-word : (i : ℕ) {a b c d r : ℕ} → i < blocksIn (length text) * 16
       → a ≡ getD (ended H before text) (4 * i) 0 → b ≡ getD (ended H before text) (4 * i + 1) 0

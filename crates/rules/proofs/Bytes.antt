@@ -9,7 +9,7 @@ use lib.Bits.{bitXor, xor-comm, xor-block}
 use lib.Dec.{lit<}
 use lib.ListN.{length, getD, drop, replicate, length-append, length-drop, List·getD-append}
 use lib.Pow.{pow-pos, pow-add}
-use lib.Seq.{drop-append-le, drop-at}
+use lib.Seq.{drop-append-le, drop-at, drop-drop}
 use Rattle.rules.specs.Supply.{Words}
 use Rattle.rules.specs.Hash.{Hash, zeros, bytesOf, numberOf, wordsOf, allBytes, padding}
 use Rattle.rules.proofs.Conversion.{words-drop}
@@ -78,6 +78,16 @@ unfolding numberOf
 number-append zero x y h = refl
 number-append (suc m) x y h =
     ap₂ (λ a b. a * 256 + b) (number-append m x y (omega arith)) (List·getD-append x y 0 m (omega arith))
+
+pub words-split : (size m p : ℕ) (x : List ℕ) → wordsOf size (m + p) x ≡ wordsOf size m x ++ wordsOf size p (drop (m * size) x)
+unfolding wordsOf
+words-split size zero p x = rw (zero-add, zero-mul size)
+words-split size (suc m) p x =
+    let place : size + m * size ≡ suc m * size = omega (arith, suc-mul m size) in
+    rw (suc-add m p)
+    (ap (λ (t : List ℕ). numberOf size x ∷ t)
+    (words-split size m p (drop size x)
+    ∙ ap (λ t. wordsOf size m (drop size x) ++ wordsOf size p t) (drop-drop (m * size) size x ∙ ap (λ t. drop t x) place)))
 
 -- words read no bytes past their own
 pub words-front : (size m : ℕ) (x y : List ℕ) → m * size ≤ length x → wordsOf size m (x ++ y) ≡ wordsOf size m x

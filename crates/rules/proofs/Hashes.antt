@@ -2,12 +2,12 @@
 use Prim.Native.Nat.{ℕ, zero, suc, _+_, _-_, _*_, _/_, _≤_, _<_}
 use mathlib.Core.Path.{_≡_, refl, sym, ap, ap₂, _∙_}
 use mathlib.Core.List.{List, _++_, map, append-assoc}
-use native.Mathlib.Nat.{add-div-left, mul-add-div, mul-div-right, mul-assoc, mul-comm, mul-add, add-mul, zero-add}
+use native.Mathlib.Nat.{mul-add-div, mul-div-right, mul-assoc, mul-comm, mul-add, add-mul, zero-add, suc-add, suc-mul}
 use native.Mathlib.Omega.{arith}
 use lib.Bits.{bitXor}
 use lib.Dec.{lit<}
 use lib.ListN.{length, replicate, take, drop, length-append, length-map, length-replicate}
-use lib.Seq.{take-at, drop-at, take-all}
+use lib.Seq.{take-at, drop-at, take-all, drop-drop}
 use Rattle.rules.specs.Supply.{Words}
 use Rattle.rules.specs.Hash.{Hash, blockBytes, chainWords, digestBytes, wordsOf, allBytes, padding, ended, ending}
 use Rattle.rules.specs.Hash.{blocks, digest, keyBlock, hmac}
@@ -51,43 +51,57 @@ module _ (H : Hash) (proper : Proper H) where
   abbrev blocksOf : List ℕ → ℕ
   blocksOf text = (length text + H .lengthBytes) / B + 1
 
-  pub ended-length : (text : List ℕ) → length (ended H B text) ≡ B * blocksOf text
-  unfolding ended
-  ended-length text =
-      let l = length text in
-      let q = (l + H .lengthBytes) / B in
-      let more : (B + (l + H .lengthBytes)) / B ≡ q + 1 = add-div-left (l + H .lengthBytes) a-block in
-      let all : B + l + length (padding H (B + l)) ≡ B * (q + 1 + 1) =
-      proper .whole (B + l) ∙ ap (λ t. B * (t + 1)) (ap (λ t. t / B) (assoc B l (H .lengthBytes)) ∙ more) in
-      length-append text (padding H (B + l)) ∙ omega (arith, all, mul-add B (q + 1) 1)
-    where
-      assoc : (a b c : ℕ) → a + b + c ≡ a + (b + c)
-      assoc a b c = omega arith
+  -- a text after m whole blocks
+  module _ (m before : ℕ) (after : before ≡ m * B) (text : List ℕ) where
+    pub ended-length : length (ended H before text) ≡ B * blocksOf text
+    unfolding ended
+    ended-length =
+        let l = length text in
+        let q = (l + H .lengthBytes) / B in
+        let more : (before + l + H .lengthBytes) / B ≡ m + q =
+        ap (λ t. t / B) (omega (arith, after ∙ mul-comm m B)) ∙ mul-add-div a-block m (l + H .lengthBytes) in
+        let all : before + l + length (padding H (before + l)) ≡ B * (m + q + 1) =
+        proper .whole (before + l) ∙ ap (λ t. B * (t + 1)) more in
+        let parts : B * (m + q + 1) ≡ B * m + B * (q + 1) = ap (λ t. B * t) (omega arith) ∙ mul-add B m (q + 1) in
+        length-append text (padding H (before + l)) ∙ omega (arith, all, parts, after ∙ mul-comm m B)
 
-  pub ending-length : (text : List ℕ) → length (ending H B text) ≡ 16 * blocksOf text
-  unfolding ending
-  ending-length text =
-      length-words size (length (ended H B text) / size) (ended H B text)
-      ∙ ap (λ t. t / size) (ended-length text ∙ regroup (blocksOf text))
-      ∙ mul-div-right (16 * blocksOf text) (proper .some)
-    where
-      regroup : (q : ℕ) → 16 * size * q ≡ size * (16 * q)
-      regroup q = ap (λ t. t * q) (mul-comm 16 size) ∙ mul-assoc size 16 q
+    pub ending-length : length (ending H before text) ≡ 16 * blocksOf text
+    unfolding ending
+    ending-length =
+        length-words size (length (ended H before text) / size) (ended H before text)
+        ∙ ap (λ t. t / size) (ended-length ∙ regroup (blocksOf text))
+        ∙ mul-div-right (16 * blocksOf text) (proper .some)
+      where
+        regroup : (q : ℕ) → 16 * size * q ≡ size * (16 * q)
+        regroup q = ap (λ t. t * q) (mul-comm 16 size) ∙ mul-assoc size 16 q
 
-  pub ending-blocks : (text : List ℕ) → length (ending H B text) / 16 ≡ blocksOf text
-  ending-blocks text = ap (λ t. t / 16) (ending-length text) ∙ mul-div-right (blocksOf text) (lit< tt)
+    pub ending-blocks : length (ending H before text) / 16 ≡ blocksOf text
+    ending-blocks = ap (λ t. t / 16) ending-length ∙ mul-div-right (blocksOf text) (lit< tt)
 
-  pub ending-words : (text : List ℕ) → Words 8 text → Words (8 * size) (ending H B text)
+  pub ending-words : (before : ℕ) (text : List ℕ) → Words 8 text → Words (8 * size) (ending H before text)
   unfolding ending ended
-  ending-words text bytes =
-      bytes-are-words size _ (text ++ padding H (B + length text))
-      (words-join 8 text (padding H (B + length text)) bytes (padding-is-bytes H (B + length text)))
+  ending-words before text bytes =
+      bytes-are-words size _ (text ++ padding H (before + length text))
+      (words-join 8 text (padding H (before + length text)) bytes (padding-is-bytes H (before + length text)))
+
+  pub one-block : B ≡ 1 * B
+  one-block = omega arith
 
   -- ---- chains
   blocks-chain : (m : ℕ) (W h : List ℕ) → Chained H h → Chained H (blocks H m W h)
   unfolding blocks
   blocks-chain zero W h c = c
   blocks-chain (suc m) W h c = blocks-chain m (drop 16 W) _ (proper .makes h (take 16 W) (c .0))
+
+  pub blocks-append : (m p : ℕ) (W h : List ℕ) → blocks H (m + p) W h ≡ blocks H p (drop (m * 16) W) (blocks H m W h)
+  unfolding blocks
+  blocks-append zero p W h = rw zero-add
+  blocks-append (suc m) p W h =
+      let place : 16 + m * 16 ≡ suc m * 16 = omega (arith, suc-mul m 16) in
+      rw (suc-add m p)
+      (blocks-append m p (drop 16 W) (H .compress h (take 16 W))
+      ∙ ap (λ t. blocks H p t (blocks H m (drop 16 W) (H .compress h (take 16 W))))
+      (drop-drop (m * 16) 16 W ∙ ap (λ t. drop t W) place))
 
   blocks-next : (m : ℕ) (W h : List ℕ) → blocks H (suc m) W h ≡ blocks H m (drop 16 W) (H .compress h (take 16 W))
   unfolding blocks
@@ -115,8 +129,7 @@ module _ (H : Hash) (proper : Proper H) where
   module _ (x y : List ℕ) (block : length x ≡ B) where
     front-words : ending H 0 (x ++ y) ≡ wordsOf size 16 x ++ ending H B y
     front-words =
-        let one : 1 * B ≡ B = omega arith in
-        ending-front 1 0 x y (block ∙ sym one) ∙ ap (λ t. wordsOf size 16 x ++ ending H t y) (zero-add (1 * B) ∙ one)
+        ending-front 1 0 x y (block ∙ one-block) ∙ ap (λ t. wordsOf size 16 x ++ ending H t y) (zero-add (1 * B) ∙ sym one-block)
 
     pub digest-front : (W : List ℕ) → W ≡ ending H B y
         → digest H (x ++ y) ≡ allBytes size (blocks H (length W / 16) W (H .compress (H .start) (wordsOf size 16 x)))

@@ -16,6 +16,8 @@ pub mod MaskedSha1
 pub mod Hashes
 pub mod MaskedHmac
 pub mod Sizes
+pub mod Streaming
+pub mod Runs
 pub mod Opens
 pub mod Tags
 pub mod Outcomes

@@ -1,7 +1,7 @@
 -- What a call comes to, over any tests and any rule: which number it gives, what it leaves, which words have no say in it,
 -- what it makes. crates/claims says it of each call.
 use Prim.Native.Nat.{ℕ, zero, suc, _≤_}
-use mathlib.Core.Path.{_≡_, refl, sym, ap, _∙_, subst}
+use mathlib.Core.Path.{_≡_, refl, sym, ap, ap₂, _∙_, subst}
 use mathlib.Core.Bool.{Bool, true, false}
 use mathlib.Core.List.{List, [], _∷_}
 use mathlib.Core.Logic.{_⊎_, inl, inr}
@@ -112,9 +112,12 @@ module _ {d : ℕ} {P : List ℕ → Type 0} {rule : Draw (List ℕ)} (law : Rul
   module _ (vs : List ℕ) (same : take d ws ≡ take d vs) (enough : d ≤ length ws) where
     pub alike : rule ws 0 ≡ rule vs 0
     alike =
-        law .same ws vs 0
-        (λ i h l.
-        sym (getD-take d ws i 0 (omega arith)) ∙ ap (λ t. getD t i 0) same ∙ getD-take d vs i 0 (omega arith))
+        ap₂ (λ a b. (a, b))
+        (law .same ws vs 0 0
+        (λ i l.
+        rw zero-add
+        (sym (getD-take d ws i 0 (omega arith)) ∙ ap (λ t. getD t i 0) same ∙ getD-take d vs i 0 (omega arith))))
+        (place ∙ sym (law .place vs 0 ∙ zero-add d))
 
     pub as-long : d ≤ length vs
     as-long = omega (arith, length-take d vs, ap length same, length-take-le d ws enough)

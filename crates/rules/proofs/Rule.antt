@@ -3,6 +3,7 @@
 use Prim.Native.Nat.{ℕ, zero, suc, _+_}
 use mathlib.Core.Path.{_≡_, refl, sym, ap, _∙_, subst}
 use mathlib.Core.List.{List, [], _∷_}
+use native.Mathlib.Nat.{add-zero}
 use native.Mathlib.Omega.{arith}
 use lib.ListN.{length, getD}
 use Rattle.rules.specs.Supply.{Place, Supply, Sharing, Draw, Rule, next}
@@ -10,14 +11,14 @@ use Rattle.rules.specs.Shares.{Step, pass}
 
 -- nothing is drawn
 pub give : {S : Type 0} (P : S → Type 0) (s : S) → P s → Rule 0 P (λ ws at. (s, at))
-give P s p = record { place = λ ws at. omega arith; same = λ ws vs at h. refl; makes = λ ws at. p }
+give P s p = record { place = λ ws at. omega arith; same = λ ws vs at to h. refl; makes = λ ws at. p }
 
 -- the next word
 pub next-word : Rule 1 (λ s. Unit {0}) (λ ws at. (getD ws at 0, at + 1))
 next-word =
     record {
       place = λ ws at. refl;
-      same = λ ws vs at h. ap (λ s. (s, at + 1)) (h at (omega arith) (omega arith));
+      same = λ ws vs at to h. rw (add-zero at, add-zero to) at (h 0 (omega arith));
       makes = λ ws at. tt;
     }
 
@@ -26,15 +27,18 @@ pub bind : {S R : Type 0} {d e : ℕ} {P : S → Type 0} {Q : R → Type 0} {r :
     → Rule d P r
     → ((z : S) → P z → Rule e Q (s z))
     → Rule (d + e) Q (λ ws at. s (r ws at .0) ws (r ws at .1))
-bind {S = S} {r = r} {s = s} a b =
+bind {d = d} {r = r} {s = s} a b =
     record {
       place = λ ws at. b (r ws at .0) (a .makes ws at) .place ws (r ws at .1) ∙ omega (arith, a .place ws at);
-      same = λ ws vs at h.
-          b (r ws at .0) (a .makes ws at) .same ws vs (r ws at .1)
-          (λ i l u. h i (omega (arith, a .place ws at)) (omega (arith, a .place ws at)))
-          ∙ ap (λ (t : S × ℕ). s (t .0) vs (t .1)) (a .same ws vs at (λ i l u. h i l (omega arith)));
+      same = λ ws vs at to h.
+          b (r ws at .0) (a .makes ws at) .same ws vs (r ws at .1) (r vs to .1)
+          (λ i u. later ws at i ∙ h (d + i) (omega arith) ∙ sym (later vs to i))
+          ∙ ap (λ t. s t vs (r vs to .1) .0) (a .same ws vs at to (λ i u. h i (omega arith)));
       makes = λ ws at. b (r ws at .0) (a .makes ws at) .makes ws (r ws at .1);
     }
+  where
+    later : (ws : Supply) (at i : Place) → getD ws (r ws at .1 + i) 0 ≡ getD ws (at + (d + i)) 0
+    later ws at i = ap (λ t. getD ws t 0) (omega (arith, a .place ws at))
 
 -- the same rule, its count or what it makes said otherwise
 pub said : {S : Type 0} {d e : ℕ} {P Q : S → Type 0} {r : Draw S}
@@ -42,7 +46,7 @@ pub said : {S : Type 0} {d e : ℕ} {P Q : S → Type 0} {r : Draw S}
 said {r = r} a n f =
     record {
       place = λ ws at. a .place ws at ∙ ap (λ m. at + m) n;
-      same = λ ws vs at h. a .same ws vs at (λ i l u. h i l (omega arith));
+      same = λ ws vs at to h. a .same ws vs at to (λ i u. h i (omega arith));
       makes = λ ws at. f (r ws at .0) (a .makes ws at);
     }
 
@@ -75,6 +79,7 @@ pub alike : {S : Type 0} {d : ℕ} {P : S → Type 0} {r s : Draw S}
 alike {S = S} {P = P} {r = r} {s = s} e a =
     record {
       place = λ ws at. ap (λ (t : S × ℕ). t .1) (e ws at) ∙ a .place ws at;
-      same = λ ws vs at h. e ws at ∙ a .same ws vs at h ∙ sym (e vs at);
+      same = λ ws vs at to h.
+          ap (λ (t : S × ℕ). t .0) (e ws at) ∙ a .same ws vs at to h ∙ sym (ap (λ (t : S × ℕ). t .0) (e vs to));
       makes = λ ws at. subst (λ (t : S × ℕ). P (t .0)) (sym (e ws at)) (a .makes ws at);
     }

@@ -79,7 +79,7 @@ module _ (M : Masked) (n : ℕ) (some : 0 < n) (keeps : KeepsHash M n (λ v. Uni
   abbrev H : Hash
   H = M .standard
 
-  words-size : (m : ℕ) (s : List ℕ) → length s ≡ m * n → Goods (Sized n) m s (openWords n m s)
+  pub words-size : (m : ℕ) (s : List ℕ) → length s ≡ m * n → Goods (Sized n) m s (openWords n m s)
   words-size m s l = goods-of n m s l (λ i x h e. h)
 
   pub compress-sized : (h block : List ℕ) → length h ≡ chainWords H * n → length block ≡ 16 * n

@@ -1,6 +1,7 @@
 -- Streaming: a tag while the message comes in pieces, over any hash in shares. Start, feed a piece of any length, and finish, each
 -- with words of its own; the state is handed in and out.
 use Prim.Native.Nat.{ℕ, zero, suc, _+_, _-_, _*_, _/_, _%_}
+use mathlib.Core.Path.{_≡_}
 use mathlib.Core.Bool.{Bool}
 use mathlib.Core.List.{List, [], _∷_, _++_}
 use lib.Dec.{eqb, leb}
@@ -122,3 +123,26 @@ feedWords M s l =
 
 abbrev pub finishWords : Masked → State → Answer
 finishWords M s = query (test 6 (isFit s) ∷ []) (finishDraws M (s .n) (s .bytes))
+
+-- ---- what is said of a run: pieces fed one after the other, each with words of its own
+abbrev pub Feeds : Type 0
+Feeds = List (Bytes × Supply)
+
+-- the pieces, joined
+unfoldable pub message : Feeds → Bytes
+message [] = []
+message (f ∷ fs) = f .0 ++ message fs
+
+-- the state after them, and the words that they drew, joined in order
+unfoldable pub after : Masked → State → Feeds → State
+after M s [] = s
+after M s (f ∷ fs) = after M (feedCall M s (f .0) (f .1) .state) fs
+
+unfoldable pub drawn : Masked → State → Feeds → Supply
+drawn M s [] = []
+drawn M s (f ∷ fs) = let o = feedCall M s (f .0) (f .1) in take (o .drawn) (f .1) ++ drawn M (o .state) fs
+
+-- none of them is refused
+unfoldable pub Accepted : Masked → State → Feeds → Type 0
+Accepted M s [] = Unit {0}
+Accepted M s (f ∷ fs) = let o = feedCall M s (f .0) (f .1) in (o .number ≡ 0) × Accepted M (o .state) fs

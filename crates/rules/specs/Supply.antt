@@ -54,14 +54,14 @@ split n value ws at =
     (masks .0 ++ (bitXor value (opened (masks .0)) ∷ []), masks .1)
 
 -- ---- what is said of a rule
--- two supplies have the same words from one place to before another
-abbrev pub Agree : Supply → Supply → Place → Place → Type 0
-Agree ws vs from end = (i : Place) → from ≤ i → i < end → getD ws i 0 ≡ getD vs i 0
+-- the same d words stand in one supply from one place on, and in another from another
+abbrev pub Agree : ℕ → Supply → Place → Supply → Place → Type 0
+Agree d ws at vs to = (i : ℕ) → i < d → getD ws (at + i) 0 ≡ getD vs (to + i) 0
 
--- it draws d words; no other word has a say; and what it makes is as P says
+-- it draws d words; nothing else of the supply has a say, nor where they stand in it; and what it makes is as P says
 pub record Rule {S : Type 0} (d : ℕ) (P : S → Type 0) (rule : Draw S) : Type 0 where
   pub place : (ws : Supply) (at : Place) → rule ws at .1 ≡ at + d
-  pub same : (ws vs : Supply) (at : Place) → Agree ws vs at (at + d) → rule ws at ≡ rule vs at
+  pub same : (ws vs : Supply) (at to : Place) → Agree d ws at vs to → rule ws at .0 ≡ rule vs to .0
   pub makes : (ws : Supply) (at : Place) → P (rule ws at .0)
 
 -- n shares that open to a secret

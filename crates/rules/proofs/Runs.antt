@@ -1,0 +1,155 @@
+-- Runs of feeds from a start: how the message is cut has no say, how many words are drawn in all, and whose tag it is.
+use Prim.Native.Nat.{ℕ, zero, suc, _+_, _-_, _*_, _/_, _%_, _≤_, _<_}
+use mathlib.Core.Path.{_≡_, refl, sym, ap, ap₂, _∙_, subst}
+use mathlib.Core.List.{List, [], _∷_, _++_, append-assoc, append-nil}
+use native.Mathlib.Nat.{zero-add, add-zero, add-mul}
+use native.Mathlib.Omega.{arith}
+use lib.ListN.{length, getD, take, drop, length-append, length-drop, List·getD-append}
+use lib.Seq.{getD-append-add, getD-take, length-take-le}
+use borrow.Author.Tests.{leb-true}
+use Rattle.rules.specs.declared.State.{State}
+use Rattle.rules.specs.Supply.{Rule, Agree}
+use Rattle.rules.specs.Numbers.{first}
+use Rattle.rules.specs.Hash.{Hash, blockBytes, chainWords}
+use Rattle.rules.specs.Hmac.{Masked}
+use Rattle.rules.specs.Counts.{feedDraws}
+use Rattle.rules.specs.Calls.{call}
+use Rattle.rules.specs.Stream.{Feeds, state, fullBlocks, feed, feedCall, message, after, drawn, Accepted}
+use Rattle.rules.proofs.Rule.{said, alike}
+use Rattle.rules.proofs.Goods.{goods-size}
+use Rattle.rules.proofs.MaskedHmac.{Keeps}
+use Rattle.rules.proofs.Sizes.{Sized, words-size}
+use Rattle.rules.proofs.Streaming.{full-rule, Made, made-fed, Fed, fed-rule, fedFrom, nothing, joined, rest-size}
+use Rattle.rules.proofs.Calls.{passed, holds}
+
+-- ---- words drawn, and words after them
+module _ (d : ℕ) (ws later : List ℕ) (enough : d ≤ length ws) where
+  drawn-so : length (take d ws) ≡ d
+  drawn-so = length-take-le d ws enough
+
+  heads : Agree d (take d ws ++ later) 0 ws 0
+  heads i h =
+      rw zero-add (List·getD-append (take d ws) later 0 i (omega (arith, drawn-so)) ∙ getD-take d ws i 0 h)
+
+  tails : (e : ℕ) → Agree e (take d ws ++ later) d later 0
+  tails e i h =
+      ap (λ t. getD (take d ws ++ later) (t + i) 0) (sym drawn-so) ∙ getD-append-add (take d ws) later i 0
+      ∙ ap (λ t. getD later t 0) (sym (zero-add i))
+
+-- ---- a state as start and feed make it
+module _ (M : Masked) (n : ℕ) (some : 0 < n) (keeps : Keeps M n (λ v. Unit {0}) (Sized n))
+    (sixty-four : blockBytes (M .standard) ≡ 64) where
+  abbrev H : Hash
+  H = M .standard
+
+  pub record Clean (s : State) : Type 0 where
+    pub bytes : ℕ
+    pub inner : List ℕ
+    pub outer : List ℕ
+    pub waits : List ℕ
+    pub made : Made M n bytes inner outer waits
+    pub is : s ≡ state n bytes inner outer waits
+
+  module _ (bytes : ℕ) (inner outer waits : List ℕ) (made : Made M n bytes inner outer waits) (piece : List ℕ) where
+    after-piece : Rule (feedDraws M n bytes (length piece)) Clean (feed M (state n bytes inner outer waits) piece)
+    after-piece =
+        alike (made-fed M n bytes inner outer waits made piece)
+        (said
+        (fed-rule keeps bytes waits (made .waits-size) (words-size M n some keeps (chainWords H) inner (made .inner-size)) outer piece
+        (λ j i. tt))
+        refl
+        (λ t f. record {
+          bytes = bytes + length piece;
+          inner = f .chain;
+          outer = outer;
+          waits = _;
+          made = record {
+            inner-size = goods-size (keeps .size) (f .good);
+            outer-size = made .outer-size;
+            waits-size = rest-size M n bytes inner outer waits sixty-four (made .waits-size) piece;
+          };
+          is = f .is;
+        }))
+
+    -- with another after it, they are one piece
+    two-pieces : (q ws : List ℕ) (at : ℕ) → (let s = state n bytes inner outer waits in
+        feed M s (piece ++ q) ws at ≡ (let r = feed M s piece ws at in feed M (r .0) q ws (r .1)))
+    two-pieces q ws at =
+        let first = waits ++ piece in
+        let many = length first / blockBytes H in
+        let r = fullBlocks M n many first inner ws at in
+        let sized = full-rule keeps many first (λ j i. tt) (words-size M n some keeps (chainWords H) inner (made .inner-size)) in
+        let next : Made M n (bytes + length piece) (r .0) outer (drop (many * blockBytes H) first) =
+        record {
+          inner-size = goods-size (keeps .size) (sized .makes ws at);
+          outer-size = made .outer-size;
+          waits-size = rest-size M n bytes inner outer waits sixty-four (made .waits-size) piece;
+        } in
+        made-fed M n bytes inner outer waits made (piece ++ q) ws at
+        ∙ joined M n bytes inner outer waits sixty-four (made .waits-size) piece q ws at
+        ∙ sym (made-fed M n (bytes + length piece) (r .0) outer (drop (many * blockBytes H) first) next q ws (r .1))
+        ∙ sym (ap (λ (t : State × ℕ). feed M (t .0) q ws (t .1)) (made-fed M n bytes inner outer waits made piece ws at))
+
+  -- ---- the same of any such state
+  module _ (s : State) (clean : Clean s) where
+    pub piece-rule : (p : List ℕ) → Rule (feedDraws M n (clean .bytes) (length p)) Clean (feed M s p)
+    piece-rule p =
+        subst (λ t. Rule (feedDraws M n (clean .bytes) (length p)) Clean (feed M t p)) (sym (clean .is))
+        (after-piece (clean .bytes) (clean .inner) (clean .outer) (clean .waits) (clean .made) p)
+
+    both-pieces : (p q ws : List ℕ) (at : ℕ)
+        → feed M s (p ++ q) ws at ≡ (let r = feed M s p ws at in feed M (r .0) q ws (r .1))
+    both-pieces p q ws at =
+        subst (λ t. feed M t (p ++ q) ws at ≡ (let r = feed M t p ws at in feed M (r .0) q ws (r .1))) (sym (clean .is))
+        (two-pieces (clean .bytes) (clean .inner) (clean .outer) (clean .waits) (clean .made) p q ws at)
+
+    no-piece : (ws : List ℕ) (at : ℕ) → feed M s [] ws at ≡ (s, at)
+    no-piece ws at =
+        subst (λ t. feed M t [] ws at ≡ (t, at)) (sym (clean .is))
+        (made-fed M n (clean .bytes) (clean .inner) (clean .outer) (clean .waits) (clean .made) [] ws at
+        ∙ nothing M n (clean .bytes) (clean .inner) (clean .outer) (clean .waits) ws at sixty-four (clean .made .waits-size))
+
+  -- ---- an accepted feed
+  module _ (s : State) (p ws : List ℕ) (ok : feedCall M s p ws .number ≡ 0) where
+    pub fed-state : feedCall M s p ws .state ≡ feed M s p ws 0 .0
+    unfolding feedCall call
+    fed-state = rw ok
+
+    pub fed-drawn : feedCall M s p ws .drawn ≡ feed M s p ws 0 .1
+    unfolding feedCall call
+    fed-drawn = rw ok
+
+    pub fed-enough : feed M s p ws 0 .1 ≤ length ws
+    unfolding feedCall call
+    fed-enough = leb-true _ _ (holds _ _ (passed _ ok .1 .1 .0))
+
+  -- ---- a run is one piece: the message, fed with the words drawn
+  pub run-is : (fs : Feeds) (s : State) → Clean s → Accepted M s fs → after M s fs ≡ feed M s (message fs) (drawn M s fs) 0 .0
+  unfolding after message drawn Accepted
+  run-is [] s clean ok = sym (ap (λ (t : State × ℕ). t .0) (no-piece s clean [] 0))
+  run-is (f ∷ fs) s clean ok =
+      let p = f .0 in
+      let ws = f .1 in
+      let rule = piece-rule s clean p in
+      let d = feedDraws M n (clean .bytes) (length p) in
+      let place : feed M s p ws 0 .1 ≡ d = rule .place ws 0 ∙ zero-add d in
+      let t = feedCall M s p ws .state in
+      let next : Clean t = subst Clean (sym (fed-state s p ws (ok .0))) (rule .makes ws 0) in
+      let later = drawn M t fs in
+      let A = take d ws ++ later in
+      let r = feed M s p A 0 in
+      let enough : d ≤ length ws = rw place at (fed-enough s p ws (ok .0)) in
+      let same : r .0 ≡ t = rule .same A ws 0 0 (heads d ws later enough) ∙ sym (fed-state s p ws (ok .0)) in
+      let end : r .1 ≡ d = rule .place A 0 ∙ zero-add d in
+      let m = message fs in
+      rw (fed-drawn s p ws (ok .0), place)
+      (run-is fs t next (ok .1)
+      ∙ sym (piece-rule t next m .same A later d 0 (tails d ws later enough _))
+      ∙ ap₂ (λ u i. feed M u m A i .0) (sym same) (sym end)
+      ∙ sym (ap (λ (u : State × ℕ). u .0) (both-pieces s clean p m A 0)))
+
+  -- ---- any cutting: the same bytes, and the same words joined in order
+  pub any-cutting : (s : State) → Clean s → (fs gs : Feeds) → Accepted M s fs → Accepted M s gs
+      → message fs ≡ message gs → drawn M s fs ≡ drawn M s gs → after M s fs ≡ after M s gs
+  any-cutting s clean fs gs f g bytes words =
+      run-is fs s clean f ∙ ap₂ (λ m ws. feed M s m ws 0 .0) bytes words ∙ sym (run-is gs s clean g)
