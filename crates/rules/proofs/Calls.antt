@@ -62,7 +62,7 @@ pub tells : (tests : List Test) (drawn : ℕ) (q : Answer) → query tests drawn
 tells tests drawn q e h = rw h at (ap (λ (a : Answer). a .drawn) e)
 
 -- ---- a call's outcome, from its number, what its rule draws and what the rule made
-module _ (tests : List Test) (rule : Draw (List ℕ)) (came ws : List ℕ) (number need : ℕ) (answer : Answer)
+module _ {S : Type 0} (tests : List Test) (rule : Draw S) (came : S) (ws : List ℕ) (number need : ℕ) (answer : Answer)
     (is : first (tests ++ (test 5 (leb need (length ws)) ∷ [])) ≡ number)
     (draws : first tests ≡ 0 → rule ws 0 .1 ≡ need) where
   -- the number by what the rule draws
@@ -73,7 +73,7 @@ module _ (tests : List Test) (rule : Draw (List ℕ)) (came ws : List ℕ) (numb
   unfolding call
   refused h e = rw (own, settled-refused number (rule ws 0 .1) 0 h, settled-refused number (rule ws 0 .0) came h, e)
 
-  pub done : number ≡ 0 → (after : List ℕ) (drawn : ℕ) → rule ws 0 ≡ (after, drawn) → answer ≡ record { number = 0; drawn = drawn }
+  pub done : number ≡ 0 → (after : S) (drawn : ℕ) → rule ws 0 ≡ (after, drawn) → answer ≡ record { number = 0; drawn = drawn }
       → call tests rule came ws ≡ (answer, after)
   unfolding call
   done h after drawn e f = rw (own, h, e, f)

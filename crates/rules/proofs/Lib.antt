@@ -23,3 +23,4 @@ pub mod Tags
 pub mod Outcomes
 pub mod AtCalls
 pub mod Tested
+pub mod StreamCalls

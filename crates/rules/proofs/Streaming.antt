@@ -1,9 +1,10 @@
 -- Streaming over any hash in shares: what a feed makes of a state, that pieces may be joined, and what finish makes.
 use Prim.Native.Nat.{ℕ, zero, suc, _+_, _-_, _*_, _/_, _%_, _≤_, _<_}
 use mathlib.Core.Path.{_≡_, refl, sym, ap, ap₂, _∙_, subst}
-use mathlib.Core.List.{List, [], _∷_, _++_, append-assoc, append-nil}
+use mathlib.Core.List.{List, [], _∷_, _++_, map, append-assoc, append-nil}
 use native.Mathlib.Nat.{zero-add, add-zero, suc-add, suc-mul, zero-mul, add-mul}
 use native.Mathlib.Omega.{arith}
+use lib.Bits.{bitXor}
 use lib.ListN.{length, getD, take, drop, replicate, length-append, length-drop, length-replicate, take-append-drop}
 use lib.Seq.{take-at, drop-at, take-all, drop-drop, drop-append-le, length-take-le}
 use Rattle.rules.specs.declared.Chain.{Chain}
@@ -11,7 +12,7 @@ use Rattle.rules.specs.declared.State.{State}
 use Rattle.rules.specs.Supply.{Draw, Rule}
 use Rattle.rules.specs.Hash.{Hash, blockBytes, chainWords, wordsOf, ending, blocks as blocksOf}
 use Rattle.rules.specs.Sha1.{publics}
-use Rattle.rules.specs.Hmac.{Masked, digestPadding, keyStep, textStep, digestStep, tagOf}
+use Rattle.rules.specs.Hmac.{Masked, everyByte, digestPadding, keyStep, textStep, digestStep, tagOf}
 use Rattle.rules.specs.Counts.{startDraws, feedDraws, finishDraws}
 use Rattle.rules.specs.Stream.{inUse, waiting, filled, state, start, fullBlocks, feed, finish}
 use Rattle.rules.proofs.Rule.{give, bind, said, counted, alike}
@@ -99,6 +100,28 @@ module _ {M : Masked} {n : ℕ} {Fits : ℕ → Type 0} {Good : List ℕ → ℕ
       (bind (keeps .compresses g (publics-of keeps 16 W sixteen (λ i b. u 0 i))) (λ z gz. full-rule m (drop block text) later gz))
       (omega (arith, suc-mul m (M .draws n)))
       (λ z gz. rw (more, take-at W rest 16 sixteen, drop-at W rest 16 sixteen) gz)
+
+-- ---- start: both key blocks
+module _ {M : Masked} {n : ℕ} {Fits : ℕ → Type 0} {Good : List ℕ → ℕ → Type 0} (keeps : Keeps M n Fits Good)
+    (proper : Proper (M .standard)) (some : 0 < n) {key KEY : List ℕ} (key-good : Goods Good 16 key KEY) where
+  abbrev K : Hash
+  K = M .standard
+
+  pub record Started (t : State) : Type 0 where
+    pub inner : List ℕ
+    pub outer : List ℕ
+    pub is : t ≡ state n 0 inner outer []
+    pub inner-good : Goods Good (chainWords K) inner (K .compress (K .start) (map (λ w. bitXor w (everyByte K 0x36)) KEY))
+    pub outer-good : Goods Good (chainWords K) outer (K .compress (K .start) (map (λ w. bitXor w (everyByte K 0x5c)) KEY))
+
+  pub start-rule : Rule (startDraws M n) Started (start M n key)
+  unfolding start
+  start-rule =
+      counted
+      (bind (key-rule keeps proper some 0x36 (omega arith) key-good) (λ i gi.
+      bind (key-rule keeps proper some 0x5c (omega arith) key-good) (λ o go.
+      give Started (state n 0 i o []) (record { inner = i; outer = o; is = refl; inner-good = gi; outer-good = go }))))
+      (omega arith)
 
 -- ---- feed and finish by what they read of a state: the bytes so far, the chains in use and the bytes that wait
 abbrev pub fedFrom : Masked → ℕ → ℕ → List ℕ → List ℕ → List ℕ → List ℕ → Draw State

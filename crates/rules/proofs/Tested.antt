@@ -38,7 +38,7 @@ both-true true b h = (refl, h)
 both-true false b h = let z : _≡_ {A = ℕ} 0 1 = cc in absurd (omega arith)
 
 -- a query refuses nothing of a share count that is taken, with a text that fits
-taken : (n : ℕ) → allowed n ≡ true → first (test 1 (allowed n) ∷ []) ≡ 0
+pub taken : (n : ℕ) → allowed n ≡ true → first (test 1 (allowed n) ∷ []) ≡ 0
 unfolding first test
 taken n h = rw h
 
@@ -138,7 +138,7 @@ pub short-text : (l : ℕ) → leb l longestMessage ≡ true → 64 + l < 2 ^ 60
 short-text l h = omega (arith, leb-true l longestMessage h)
 
 -- ---- each rule draws what its query tells, where the tests before the supply were passed
-needs : {S : Type 0} {P : S → Type 0} {rule : Draw S} (d : ℕ) (q : Answer) (tests : List Test) (ws : List ℕ)
+pub needs : {S : Type 0} {P : S → Type 0} {rule : Draw S} (d : ℕ) (q : Answer) (tests : List Test) (ws : List ℕ)
     → query tests d ≡ q → first tests ≡ 0 → Rule d P rule → rule ws 0 .1 ≡ q .drawn
 needs d q tests ws e h r = r .place ws 0 ∙ zero-add d ∙ tells tests d q e h
 

@@ -3,22 +3,24 @@ use Prim.Native.Nat.{ℕ, zero, suc, _+_, _-_, _*_, _/_, _%_, _^_, _≤_, _<_}
 use mathlib.Core.Path.{_≡_, refl, sym, ap, ap₂, _∙_}
 use mathlib.Core.List.{List, [], _∷_, _++_, map, append-nil}
 use native.Mathlib.Omega.{arith}
-use native.Mathlib.Nat.{sub-zero, zero-mul}
+use native.Mathlib.Nat.{sub-zero, add-mul}
 use lib.ListN.{length, getD, set, take, drop, replicate, length-append, length-drop, length-map, take-append-drop, List·getD-append}
 use lib.Seq.{take-at, take-all, drop-drop, getD-append-add, getD-take, getD-drop, length-take-le}
 use Rattle.words.proofs.Stores.{filled-next, filled-end}
 use Rattle.rules.specs.declared.Chain.{Chain}
 use Rattle.rules.specs.declared.State.{State}
 use Rattle.rules.specs.Numbers.{largest, longestMessage}
-use Rattle.rules.specs.Hash.{wordsOf, ending}
-use Rattle.rules.specs.Standard.{SHA1}
-use Rattle.rules.specs.Sha1.{publics, used}
-use Rattle.rules.specs.Stream.{filled, state, fullBlocks, feed}
+use Rattle.rules.specs.Hash.{numberOf, allBytes, wordsOf, ending}
+use Rattle.rules.specs.Standard.{SHA1, H0}
+use Rattle.rules.specs.Sha1.{publics, openWords, used}
+use Rattle.rules.specs.Hmac.{marked, blocks, digestPadding}
+use Rattle.rules.specs.Stream.{filled, state, start, fullBlocks, feed, finish}
 use Rattle.rules.proofs.Loops.{Run, chain-length, parts-room}
 use Rattle.rules.proofs.Bytes.{length-words, words-front}
-use Rattle.rules.proofs.Hashes.{ending-front}
+use Rattle.rules.proofs.Hashes.{ending-front, ending-blocks}
 use Rattle.rules.proofs.Tags.{sha1-proper}
 use Rattle.hash.specs.Hash.{hash}
+use Rattle.padding.specs.Whole.{blocksIn}
 use Rattle.sha1.proofs.Parts.{used-lent, zeros-after}
 
 -- ---- a chain with 0 in its unused words
@@ -117,6 +119,23 @@ module _ (bytes l : ℕ) (tail : List ℕ) (whole : length (map (λ (v : ℕ). v
       → at + (length (take (bytes % 64 - 0) tail) + l) / 64 * d ≤ have
   piece-room d at have h = rw tail-size h
 
+-- ---- the rest of a message
+module _ (bytes : ℕ) (tail : List ℕ) (whole : length (map (λ (v : ℕ). v) tail) ≡ 64) where
+  pub last-fits : bytes ≤ longestMessage → (bytes / 64 + 1) * 64 + length (take (bytes % 64 - 0) tail) < 2 ^ 60
+  last-fits h = rw (tail-size bytes 0 tail whole) (omega arith)
+
+  pub last-room : (d at have : ℕ) → at + ((bytes % 64 + 8) / 64 + 2) * d ≤ have
+      → at + blocksIn (length (take (bytes % 64 - 0) tail)) * d ≤ have
+  last-room d at have h =
+      let q = (bytes % 64 + 8) / 64 in
+      rw (tail-size bytes 0 tail whole) (omega (arith, add-mul q 1 d, add-mul q 2 d))
+
+  pub digest-room : (d at have p : ℕ) → at + ((bytes % 64 + 8) / 64 + 2) * d ≤ have
+      → p ≡ at + blocksIn (length (take (bytes % 64 - 0) tail)) * d → p + d ≤ have
+  digest-room d at have p h e =
+      let q = (bytes % 64 + 8) / 64 in
+      omega (arith, rw (tail-size bytes 0 tail whole) at e, add-mul q 1 d, add-mul q 2 d)
+
 module _ (s : State) (piece ws tail rest : List ℕ) (at p : ℕ) (inner : Chain) (r : State) where
   abbrev left : ℕ
   left = (s .bytes + length piece) % 64
@@ -148,3 +167,36 @@ module _ (s : State) (piece ws tail rest : List ℕ) (at p : ℕ) (inner : Chain
       let last : rest ≡ drop (length text / 64 * 64) text =
       ends ∙ ap₂ (λ l t. take l (drop t text)) room place ∙ take-all left (drop (length text / 64 * 64) text) (omega (arith, over)) in
       rw (is, ← waited, last, over, zeros-after 64 left (omega arith), size, full)
+
+-- ---- a state after both key blocks
+pub start-made : (n : ℕ) (key ws : List ℕ) (at p q : ℕ) (i o : Chain) (s : State)
+    → hash .compress n (publics n H0) (marked n 0x36363636 16 0 key) ws at ≡ (used n (i .shares), p)
+    → hash .compress n (publics n H0) (marked n 0x5c5c5c5c 16 0 key) ws p ≡ (used n (o .shares), q)
+    → s ≡ record {
+      n = n;
+      bytes = 0;
+      finished = 0;
+      inner = record { shares = filled 40 (used n (i .shares)) };
+      outer = record { shares = filled 40 (used n (o .shares)) };
+      tail = replicate 64 0;
+    }
+    → start hash n key ws at ≡ (s, q)
+unfolding start state numberOf
+start-made n key ws at p q i o s a b is = rw (a, b, is)
+
+-- ---- the tag: the rest of the message with its padding, then the digest block
+pub finish-made : (s : State) (ws tail tag : List ℕ) (at p q : ℕ) (inner last : Chain)
+    → length (map (λ (v : ℕ). v) (s .tail)) ≡ 64 → tail ≡ take (s .bytes % 64 - 0) (s .tail)
+    → blocks hash (s .n) (blocksIn (length tail)) (publics (s .n) (ending (hash .standard) ((s .bytes / 64 + 1) * 64) tail))
+    (used (s .n) (s .inner .shares)) ws at
+    ≡ (used (s .n) (inner .shares), p)
+    → hash .compress (s .n) (used (s .n) (s .outer .shares))
+    (used (s .n) (inner .shares) ++ publics (s .n) (digestPadding (hash .standard))) ws p
+    ≡ (used (s .n) (last .shares), q)
+    → tag ≡ allBytes 4 (openWords (s .n) 5 (used (s .n) (last .shares)))
+    → finish hash s ws at ≡ (tag, q)
+unfolding finish used
+finish-made s ws tail tag at p q inner last whole waits text digest opened =
+    let waited : tail ≡ take (s .bytes % 64) (s .tail) = waits ∙ rw (sub-zero (s .bytes % 64)) in
+    let m = s .bytes / 64 + 1 in
+    rw (← waited, ending-blocks (SHA1 32) sha1-proper m (m * 64) refl tail, text, digest, opened)
