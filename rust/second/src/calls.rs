@@ -1,7 +1,7 @@
 //! The public calls for n shares: the tests of section 3 in their order, then the rule. Every
 //! refusal reports 0 words drawn and leaves the output as it came.
 
-use crate::numbers::{first_refusal, Answer, Chain, Compressed, Opened};
+use crate::numbers::{first_refusal, Answer, Chain, Compressed, Opened, MESSAGE_LIMIT};
 use crate::supply::Supply;
 use crate::{rules, sha1};
 
@@ -111,11 +111,9 @@ pub fn sha1_compress(n: usize, chain: Chain, block: &[u32], words: &[u32]) -> Co
     let tests = [(2, block.len() != n.saturating_mul(16))];
     let mut after = chain;
     let answer = call(n, &tests, &mut after.shares, words, |supply| {
-        let old = sha1::shared_words(n, &chain.shares[..5 * n]);
+        let old = sha1::chain_words(n, &chain);
         let new = sha1::compress(&old, &sha1::shared_words(n, block), supply)?;
-        let mut shares = new.concat();
-        shares.resize(40, 0);
-        Some(shares)
+        Some(sha1::chain_record(&new).shares.to_vec())
     });
     Compressed {
         number: answer.number,
@@ -130,9 +128,9 @@ pub fn hmac_sha1(n: usize, key: &[u32], message: &[u8], tag: &mut [u8], words: &
     let tests = [
         (2, key.len() != n.saturating_mul(16)),
         (3, tag.len() != 20),
-        (4, message.len() > 4096),
+        (4, message.len() as u64 > MESSAGE_LIMIT),
     ];
     call(n, &tests, tag, words, |supply| {
-        sha1::hmac(n, &sha1::shared_words(n, key), message, supply)
+        sha1::hmac(&sha1::shared_words(n, key), message, supply)
     })
 }

@@ -1,9 +1,13 @@
-//! The numbers handed back (section 3), and the records that carry them.
+//! The numbers handed back (section 3, and number 6 of request (i)), and the records that carry
+//! them.
+
+/// Section 3: a message has up to 4,096 bytes. Request (i): "The 4,096 limit counts all pieces".
+pub(crate) const MESSAGE_LIMIT: u64 = 4096;
 
 /// What a call that takes a supply hands back, and what a query hands back.
 #[derive(Debug, Clone, Copy, PartialEq, Eq)]
 pub struct Answer {
-    /// The number of section 3.
+    /// The number of section 3 or, from a query on a state, of request (i).
     pub number: u32,
     /// How many words were drawn, or for a query will be drawn; 0 on every refusal.
     pub drawn: u64,
@@ -36,6 +40,62 @@ pub struct Compressed {
     pub chain: Chain,
 }
 
+/// The state of a tag in the making, "handed in and out" (request (i)). A caller may hand in any
+/// state at all, also one made up; an unfit one is refused with number 6.
+#[derive(Debug, Clone, Copy, PartialEq, Eq)]
+pub struct State {
+    /// The share count.
+    pub n: usize,
+    /// How many bytes of the message have been fed so far.
+    pub bytes: u64,
+    /// 0, and 1 after an accepted finish; anything but 0 counts as finished.
+    pub finished: u32,
+    /// The chain after the inner key block and the full blocks of the message.
+    pub inner: Chain,
+    /// The chain after the outer key block.
+    pub outer: Chain,
+    /// The bytes of the block that is not yet full: the first bytes % 64 places.
+    pub tail: [u8; 64],
+}
+
+impl State {
+    /// What a refused start hands back.
+    pub(crate) const ZEROS: State = State {
+        n: 0,
+        bytes: 0,
+        finished: 0,
+        inner: Chain { shares: [0; 40] },
+        outer: Chain { shares: [0; 40] },
+        tail: [0; 64],
+    };
+}
+
+/// What start, feed and finish hand back.
+#[derive(Debug, Clone, Copy, PartialEq, Eq)]
+pub struct Streamed {
+    /// The number of section 3 or of request (i).
+    pub number: u32,
+    /// How many words this call drew; 0 on every refusal.
+    pub drawn: u64,
+    /// The new state; on every refusal zeros from a start, and otherwise the state exactly as given.
+    pub state: State,
+}
+
+/// Section 3, number 1: whether the share count is 1, 2, 4 or 8.
+fn allowed(n: usize) -> bool {
+    n == 1 || n == 2 || n == 4 || n == 8
+}
+
+/// The first number that applies, or 0.
+fn first_that_applies(tests: &[(u32, bool)]) -> u32 {
+    for &(number, applies) in tests {
+        if applies {
+            return number;
+        }
+    }
+    0
+}
+
 /// Section 3, tests 1 to 4: the first number that applies, or 0. A call lists what it takes, in
 /// the order of the numbers, each number with whether it applies:
 ///
@@ -44,13 +104,23 @@ pub struct Compressed {
 /// - 3: an output slice or record has not exactly its length;
 /// - 4: the message is over 4,096 bytes, or the key given for splitting is over 64.
 pub(crate) fn first_refusal(n: usize, tests: &[(u32, bool)]) -> u32 {
-    if !(n == 1 || n == 2 || n == 4 || n == 8) {
+    if !allowed(n) {
         return 1;
     }
-    for &(number, applies) in tests {
-        if applies {
-            return number;
-        }
+    first_that_applies(tests)
+}
+
+/// The same for a call that takes a state, where number 6 stands in place of 1: "a feed or finish
+/// after finish, or on a state whose share count isn't allowed or whose byte count is past the
+/// limit; tested before all others" (request (i)).
+pub(crate) fn first_state_refusal(state: &State, tests: &[(u32, bool)]) -> u32 {
+    if state.finished != 0 || !allowed(state.n) || state.bytes > MESSAGE_LIMIT {
+        return 6;
     }
-    0
+    first_that_applies(tests)
+}
+
+/// Request (i): "a piece that would pass it gives 4". A sum past 64 bits passes the limit too.
+pub(crate) fn would_pass_the_limit(state: &State, piece_len: usize) -> bool {
+    state.bytes.saturating_add(piece_len as u64) > MESSAGE_LIMIT
 }

@@ -1,11 +1,22 @@
-//! The queries: how many words a call will draw, by the formulas of sections 2, 5 and 6. Each
-//! gives number 0 and the count, or the call's refusal 1 or 4 and the count 0.
+//! The queries: how many words a call will draw, by the formulas of sections 2, 5 and 6 and the
+//! words of request (i). Each gives number 0 and the count, or the call's refusal 1, 4 or 6 and
+//! the count 0.
 
-use crate::numbers::{first_refusal, Answer};
+use crate::numbers::{first_refusal, first_state_refusal, would_pass_the_limit};
+use crate::numbers::{Answer, State, MESSAGE_LIMIT};
+
+/// The query of a call that takes a share count.
+fn query(n: usize, tests: &[(u32, bool)], formula: impl FnOnce(u64) -> u64) -> Answer {
+    count(first_refusal(n, tests), n, formula)
+}
+
+/// The query of a call that takes a state.
+fn state_query(state: &State, tests: &[(u32, bool)], formula: impl FnOnce(u64) -> u64) -> Answer {
+    count(first_state_refusal(state, tests), state.n, formula)
+}
 
 /// The formula for n, worked out only when nothing is refused.
-fn query(n: usize, tests: &[(u32, bool)], formula: impl FnOnce(u64) -> u64) -> Answer {
-    let number = first_refusal(n, tests);
+fn count(number: u32, n: usize, formula: impl FnOnce(u64) -> u64) -> Answer {
     let drawn = match number {
         0 => formula(n as u64),
         _ => 0,
@@ -78,7 +89,27 @@ pub fn sha1_compress_words(n: usize) -> Answer {
 
 /// What `hmac_sha1` draws (section 6): that of floor((L+8)/64) + 4 compressions.
 pub fn hmac_sha1_words(n: usize, message_len: usize) -> Answer {
-    query(n, &[(4, message_len > 4096)], |n| {
+    query(n, &[(4, message_len as u64 > MESSAGE_LIMIT)], |n| {
         ((message_len as u64 + 8) / 64 + 4) * compression(n)
+    })
+}
+
+/// What `hmac_sha1_start` draws: that of the two key blocks.
+pub fn hmac_sha1_start_words(n: usize) -> Answer {
+    query(n, &[], |n| 2 * compression(n))
+}
+
+/// What `hmac_sha1_feed` draws: that of the blocks which a piece of this length completes.
+pub fn hmac_sha1_feed_words(state: State, piece_len: usize) -> Answer {
+    let tests = [(4, would_pass_the_limit(&state, piece_len))];
+    state_query(&state, &tests, |n| {
+        (state.bytes % 64 + piece_len as u64) / 64 * compression(n)
+    })
+}
+
+/// What `hmac_sha1_finish` draws: that of the padded rest, one block or two, and the digest block.
+pub fn hmac_sha1_finish_words(state: State) -> Answer {
+    state_query(&state, &[], |n| {
+        ((state.bytes % 64 + 8) / 64 + 2) * compression(n)
     })
 }

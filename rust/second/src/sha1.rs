@@ -1,6 +1,7 @@
 //! The rules of masked SHA-1 and HMAC-SHA-1 (section 6). A rule gives nothing when the supply
 //! runs out under it.
 
+use crate::numbers::Chain;
 use crate::rules::{add, and, open_xor, split, xor};
 use crate::supply::Supply;
 
@@ -31,12 +32,33 @@ pub(crate) fn shared_words(n: usize, slice: &[u32]) -> Vec<Shared> {
     slice.chunks(n).map(|shares| shares.to_vec()).collect()
 }
 
+/// The chain words of a record. Section 6: of its 40 words "5n are used; the rest are not looked at
+/// on entry".
+pub(crate) fn chain_words(n: usize, chain: &Chain) -> Vec<Shared> {
+    shared_words(n, &chain.shares[..5 * n])
+}
+
+/// The record of five chain words. Section 6: the rest "are 0 in an accepted answer".
+pub(crate) fn chain_record(words: &[Shared]) -> Chain {
+    let mut chain = Chain { shares: [0; 40] };
+    for (place, share) in words.concat().into_iter().enumerate() {
+        chain.shares[place] = share;
+    }
+    chain
+}
+
 /// Bytes "read as … big-endian words" (section 2).
 fn big_endian_words(bytes: &[u8]) -> Vec<u32> {
     bytes
         .chunks(4)
         .map(|four| u32::from_be_bytes([four[0], four[1], four[2], four[3]]))
         .collect()
+}
+
+/// Section 6: "Public values enter as (v, 0, …, 0): message words, whole words of padding".
+pub(crate) fn public_words(n: usize, bytes: &[u8]) -> Vec<Shared> {
+    let words = big_endian_words(bytes);
+    words.iter().map(|&word| public(n, word)).collect()
 }
 
 /// Section 2: a key "is padded on the right with zero bytes to 64, read as 16 big-endian words,
@@ -123,28 +145,49 @@ fn starting_chain(n: usize) -> Vec<Shared> {
         .to_vec()
 }
 
-/// RFC 2104: the key block with a pad XORed into each of its words.
-fn key_block(key: &[Shared], pad: u32) -> Vec<Shared> {
-    key.iter().map(|word| xor_constant(word, pad)).collect()
+/// RFC 2104: the key block with a pad XORed into each of its words, compressed into the starting
+/// chain.
+fn key_chain(key: &[Shared], pad: u32, supply: &mut Supply) -> Option<Vec<Shared>> {
+    let block: Vec<Shared> = key.iter().map(|word| xor_constant(word, pad)).collect();
+    compress(&starting_chain(key[0].len()), &block, supply)
 }
 
-/// The message with the padding of FIPS 180-4, 5.1.1, as public words. The length padded in
-/// counts the 64 bytes of the inner key block too.
-fn message_words(n: usize, message: &[u8]) -> Vec<Shared> {
-    let mut bytes = message.to_vec();
+/// RFC 2104: the chain after the inner key block.
+pub(crate) fn inner_key_chain(key: &[Shared], supply: &mut Supply) -> Option<Vec<Shared>> {
+    key_chain(key, 0x36363636, supply)
+}
+
+/// RFC 2104: the chain after the outer key block.
+pub(crate) fn outer_key_chain(key: &[Shared], supply: &mut Supply) -> Option<Vec<Shared>> {
+    key_chain(key, 0x5c5c5c5c, supply)
+}
+
+/// The inner digest: the chain after the rest of a message with the padding of FIPS 180-4, 5.1.1.
+/// The length is that of the whole message; padded in, it counts the inner key block's 64 bytes too.
+pub(crate) fn inner_digest(
+    chain: Vec<Shared>,
+    rest: &[u8],
+    length: u64,
+    supply: &mut Supply,
+) -> Option<Vec<Shared>> {
+    let mut bytes = rest.to_vec();
     bytes.push(0x80);
     while bytes.len() % 64 != 56 {
         bytes.push(0);
     }
-    let bits = (64 + message.len() as u64) * 8;
-    bytes.extend(bits.to_be_bytes());
-    let words = big_endian_words(&bytes);
-    words.iter().map(|&word| public(n, word)).collect()
+    bytes.extend(((64 + length) * 8).to_be_bytes());
+    let n = chain[0].len();
+    let mut inner = chain;
+    for block in public_words(n, &bytes).chunks(16) {
+        inner = compress(&inner, block, supply)?;
+    }
+    Some(inner)
 }
 
 /// The inner digest, still in shares, with the padding of FIPS 180-4, 5.1.1, as whole public
 /// words. The length padded in counts the 64 bytes of the outer key block too.
-fn digest_block(n: usize, digest: &[Shared]) -> Vec<Shared> {
+fn digest_block(digest: &[Shared]) -> Vec<Shared> {
+    let n = digest[0].len();
     let mut block = digest.to_vec();
     block.push(public(n, 0x80000000));
     while block.len() < 15 {
@@ -154,23 +197,26 @@ fn digest_block(n: usize, digest: &[Shared]) -> Vec<Shared> {
     block
 }
 
-/// RFC 2104. Section 6: HMAC "compresses the inner key block, the message blocks, the outer key
-/// block, the digest block"; "The inner digest stays in shares. Only the tag is opened."
-pub(crate) fn hmac(
-    n: usize,
-    key: &[Shared],
-    message: &[u8],
+/// The tag's bytes: the digest block compressed into the outer chain, and opened. Section 6: "The
+/// inner digest stays in shares. Only the tag is opened."
+pub(crate) fn open_tag(
+    outer: &[Shared],
+    digest: &[Shared],
     supply: &mut Supply,
 ) -> Option<Vec<u8>> {
-    let mut inner = compress(&starting_chain(n), &key_block(key, 0x36363636), supply)?;
-    for block in message_words(n, message).chunks(16) {
-        inner = compress(&inner, block, supply)?;
-    }
-    let outer = compress(&starting_chain(n), &key_block(key, 0x5c5c5c5c), supply)?;
-    let digest = compress(&outer, &digest_block(n, &inner), supply)?;
+    let digest = compress(outer, &digest_block(digest), supply)?;
     let mut tag = Vec::new();
     for word in digest {
         tag.extend(open_xor(&word).to_be_bytes());
     }
     Some(tag)
+}
+
+/// RFC 2104. Section 6: HMAC "compresses the inner key block, the message blocks, the outer key
+/// block, the digest block".
+pub(crate) fn hmac(key: &[Shared], message: &[u8], supply: &mut Supply) -> Option<Vec<u8>> {
+    let inner = inner_key_chain(key, supply)?;
+    let digest = inner_digest(inner, message, message.len() as u64, supply)?;
+    let outer = outer_key_chain(key, supply)?;
+    open_tag(&outer, &digest, supply)
 }

@@ -1,20 +1,21 @@
 //! Tests: the reference values and limits of section 7, every refusal of section 3, the order of
-//! draws, and the openings against plain arithmetic and a plain SHA-1.
+//! draws, and the openings against plain arithmetic and a plain SHA-1. Streaming has tests of its
+//! own, which use the helpers here.
 
 use crate::supply::Supply;
 use crate::*;
 
 /// The share counts that are not refused.
-const COUNTS: [usize; 4] = [1, 2, 4, 8];
+pub(crate) const COUNTS: [usize; 4] = [1, 2, 4, 8];
 /// Share counts that are refused.
-const WRONG_COUNTS: [usize; 7] = [0, 3, 5, 16, 1 << 28, usize::MAX / 16 + 2, usize::MAX];
+pub(crate) const WRONG_COUNTS: [usize; 7] = [0, 3, 5, 16, 1 << 28, usize::MAX / 16 + 2, usize::MAX];
 /// What stands in an output before a call.
 const BEFORE: u32 = 0xa5a5a5a5;
 /// The starting chain of FIPS 180-4, 5.3.1.
-const START: [u32; 5] = [0x67452301, 0xefcdab89, 0x98badcfe, 0x10325476, 0xc3d2e1f0];
+pub(crate) const START: [u32; 5] = [0x67452301, 0xefcdab89, 0x98badcfe, 0x10325476, 0xc3d2e1f0];
 
 /// Pseudo-random words from a xorshift.
-fn random_words(seed: u64, count: u64) -> Vec<u32> {
+pub(crate) fn random_words(seed: u64, count: u64) -> Vec<u32> {
     let mut state = seed.wrapping_mul(0x9e3779b97f4a7c15) | 1;
     let mut words = Vec::new();
     for _ in 0..count {
@@ -27,20 +28,20 @@ fn random_words(seed: u64, count: u64) -> Vec<u32> {
 }
 
 /// Pseudo-random bytes.
-fn random_bytes(seed: u64, count: usize) -> Vec<u8> {
+pub(crate) fn random_bytes(seed: u64, count: usize) -> Vec<u8> {
     let words = random_words(seed, count as u64);
     words.iter().map(|word| *word as u8).collect()
 }
 
-fn done(drawn: u64) -> Answer {
+pub(crate) fn done(drawn: u64) -> Answer {
     Answer { number: 0, drawn }
 }
 
-fn refused(number: u32) -> Answer {
+pub(crate) fn refused(number: u32) -> Answer {
     Answer { number, drawn: 0 }
 }
 
-fn xor_of(shares: &[u32]) -> u32 {
+pub(crate) fn xor_of(shares: &[u32]) -> u32 {
     shares.iter().fold(0, |word, share| word ^ share)
 }
 
@@ -91,7 +92,7 @@ fn plain_sha1(message: &[u8]) -> Vec<u8> {
     chain.iter().flat_map(|word| word.to_be_bytes()).collect()
 }
 
-fn plain_hmac(key: &[u8], message: &[u8]) -> Vec<u8> {
+pub(crate) fn plain_hmac(key: &[u8], message: &[u8]) -> Vec<u8> {
     let mut block = key.to_vec();
     block.resize(64, 0);
     let mut inner: Vec<u8> = block.iter().map(|byte| byte ^ 0x36).collect();
@@ -116,7 +117,7 @@ fn split_done(n: usize, value: u32, seed: u64) -> Vec<u32> {
     shares
 }
 
-fn split_key_done(n: usize, key: &[u8], seed: u64) -> Vec<u32> {
+pub(crate) fn split_key_done(n: usize, key: &[u8], seed: u64) -> Vec<u32> {
     let words = random_words(seed, split_key_words(n, key.len()).drawn);
     let mut shares = vec![BEFORE; 16 * n];
     let answer = split_key(n, key, &mut shares, &words);
@@ -125,7 +126,7 @@ fn split_key_done(n: usize, key: &[u8], seed: u64) -> Vec<u32> {
     shares
 }
 
-fn hmac_done(n: usize, key: &[u8], message: &[u8], seed: u64) -> Vec<u8> {
+pub(crate) fn hmac_done(n: usize, key: &[u8], message: &[u8], seed: u64) -> Vec<u8> {
     let shares = split_key_done(n, key, seed);
     let words = random_words(seed + 1, hmac_sha1_words(n, message.len()).drawn);
     let mut tag = [0xa5; 20];

@@ -1,0 +1,695 @@
+//! Tests of streaming (request (i)): every cut, the order of the draws and their counts, what is
+//! not read and what is cleared, the limits, and every refusal with what it leaves.
+
+use crate::tests::{
+    done, hmac_done, plain_hmac, random_bytes, random_words, refused, split_key_done, xor_of,
+    COUNTS, START, WRONG_COUNTS,
+};
+use crate::*;
+
+/// The state that a refused start hands back.
+const ZEROS: State = State {
+    n: 0,
+    bytes: 0,
+    finished: 0,
+    inner: Chain { shares: [0; 40] },
+    outer: Chain { shares: [0; 40] },
+    tail: [0; 64],
+};
+
+/// A made-up state, with pseudo-random words and bytes in every place of its chains and its tail.
+fn made_up(n: usize, bytes: u64, finished: u32, seed: u64) -> State {
+    let chain = |seed| Chain {
+        shares: random_words(seed, 40).try_into().unwrap(),
+    };
+    State {
+        n,
+        bytes,
+        finished,
+        inner: chain(seed),
+        outer: chain(seed + 1),
+        tail: random_bytes(seed + 2, 64).try_into().unwrap(),
+    }
+}
+
+/// The state with other words and bytes in the places that are not used.
+fn with_junk(state: State, seed: u64) -> State {
+    let mut junk = made_up(state.n, state.bytes, state.finished, seed);
+    let (words, bytes) = (5 * state.n, state.bytes as usize % 64);
+    junk.inner.shares[..words].copy_from_slice(&state.inner.shares[..words]);
+    junk.outer.shares[..words].copy_from_slice(&state.outer.shares[..words]);
+    junk.tail[..bytes].copy_from_slice(&state.tail[..bytes]);
+    junk
+}
+
+/// The state with 0 in the places that are not used.
+fn without_junk(state: State) -> State {
+    let mut clean = state;
+    clean.inner.shares[5 * state.n..].fill(0);
+    clean.outer.shares[5 * state.n..].fill(0);
+    clean.tail[state.bytes as usize % 64..].fill(0);
+    clean
+}
+
+/// The answer without its state.
+fn answer_of(streamed: Streamed) -> Answer {
+    Answer {
+        number: streamed.number,
+        drawn: streamed.drawn,
+    }
+}
+
+/// A refusal that leaves this state.
+fn left(number: u32, state: State) -> Streamed {
+    Streamed {
+        number,
+        drawn: 0,
+        state,
+    }
+}
+
+/// A finish, and the tag slice of 20 bytes afterwards.
+fn finish(state: State, words: &[u32]) -> (Streamed, [u8; 20]) {
+    let mut tag = [0xa5; 20];
+    let streamed = hmac_sha1_finish(state, &mut tag, words);
+    (streamed, tag)
+}
+
+// Calls that take exactly the words that their queries name off the front of a supply.
+
+fn take<'a>(query: Answer, words: &mut &'a [u32]) -> &'a [u32] {
+    assert_eq!(query.number, 0);
+    let (lent, rest) = words.split_at(query.drawn as usize);
+    *words = rest;
+    lent
+}
+
+fn start_done(n: usize, key: &[u32], words: &mut &[u32]) -> State {
+    let query = hmac_sha1_start_words(n);
+    let streamed = hmac_sha1_start(n, key, take(query, words));
+    assert_eq!(answer_of(streamed), query);
+    streamed.state
+}
+
+fn feed_done(state: State, piece: &[u8], words: &mut &[u32]) -> State {
+    let query = hmac_sha1_feed_words(state, piece.len());
+    let streamed = hmac_sha1_feed(state, piece, take(query, words));
+    assert_eq!(answer_of(streamed), query);
+    streamed.state
+}
+
+fn finish_done(state: State, words: &mut &[u32]) -> (State, Vec<u8>) {
+    let query = hmac_sha1_finish_words(state);
+    let (streamed, tag) = finish(state, take(query, words));
+    assert_eq!(answer_of(streamed), query);
+    (streamed.state, tag.to_vec())
+}
+
+/// A whole message in pieces: the end state and the tag. All the words are drawn.
+fn stream_done(n: usize, key: &[u32], pieces: &[&[u8]], words: &[u32]) -> (State, Vec<u8>) {
+    let mut rest = words;
+    let mut state = start_done(n, key, &mut rest);
+    for piece in pieces {
+        state = feed_done(state, piece, &mut rest);
+    }
+    let end = finish_done(state, &mut rest);
+    assert!(rest.is_empty());
+    end
+}
+
+// The order of the draws, by compressions.
+
+/// Public words in n shares.
+fn public(n: usize, values: &[u32]) -> Vec<u32> {
+    let mut shares = vec![0; values.len() * n];
+    for (w, value) in values.iter().enumerate() {
+        shares[w * n] = *value;
+    }
+    shares
+}
+
+fn public_bytes(n: usize, bytes: &[u8]) -> Vec<u32> {
+    let values: Vec<u32> = bytes
+        .chunks(4)
+        .map(|four| u32::from_be_bytes(four.try_into().unwrap()))
+        .collect();
+    public(n, &values)
+}
+
+fn compress_done(n: usize, chain: Chain, block: &[u32], words: &mut &[u32]) -> Chain {
+    let lent = take(sha1_compress_words(n), words);
+    let answer = sha1_compress(n, chain, block, lent);
+    assert_eq!(answer.number, 0);
+    answer.chain
+}
+
+#[test]
+fn start_does_the_inner_key_block_then_the_outer_one() {
+    for n in COUNTS {
+        let key = random_words(1, 16 * n as u64);
+        let words = random_words(2, 2 * sha1_compress_words(n).drawn);
+        let mut rest = &words[..];
+        let mut first = Chain { shares: [0; 40] };
+        first.shares[..5 * n].copy_from_slice(&public(n, &START));
+        let mut chains = Vec::new();
+        for pad in [0x36363636, 0x5c5c5c5c] {
+            let mut block = key.clone();
+            for w in 0..16 {
+                block[w * n] ^= pad;
+            }
+            chains.push(compress_done(n, first, &block, &mut rest));
+        }
+        assert!(rest.is_empty());
+        let expected = State {
+            n,
+            inner: chains[0],
+            outer: chains[1],
+            ..ZEROS
+        };
+        assert_eq!(start_done(n, &key, &mut &words[..]), expected);
+    }
+}
+
+#[test]
+fn feed_compresses_each_block_once_it_is_full() {
+    for n in COUNTS {
+        for (bytes, length) in [(0, 63), (0, 64), (1, 63), (63, 1), (127, 67), (70, 186)] {
+            let state = made_up(n, bytes, 0, bytes + 5);
+            let piece = random_bytes(3, length);
+            let filled = bytes as usize % 64;
+            let all = [&state.tail[..filled], &piece].concat();
+            let words = random_words(4, all.len() as u64 / 64 * sha1_compress_words(n).drawn);
+            let mut rest = &words[..];
+            let mut expected = State {
+                bytes: bytes + length as u64,
+                ..state
+            };
+            for block in all.chunks(64) {
+                if block.len() == 64 {
+                    let block = public_bytes(n, block);
+                    expected.inner = compress_done(n, expected.inner, &block, &mut rest);
+                } else {
+                    expected.tail[..block.len()].copy_from_slice(block);
+                }
+            }
+            assert!(rest.is_empty());
+            let after = feed_done(state, &piece, &mut &words[..]);
+            assert_eq!(after, without_junk(expected));
+        }
+    }
+}
+
+#[test]
+fn finish_does_the_padding_then_the_outer_digest_block() {
+    for n in COUNTS {
+        for bytes in [0, 1, 55, 56, 63, 64, 119, 120, 4095, 4096] {
+            let state = made_up(n, bytes, 0, bytes + 5);
+            let filled = bytes as usize % 64;
+            let mut padded = state.tail[..filled].to_vec();
+            padded.push(0x80);
+            padded.resize(if filled < 56 { 62 } else { 126 }, 0);
+            padded.extend((((64 + bytes) * 8) as u16).to_be_bytes());
+            let blocks = padded.len() as u64 / 64 + 1;
+            let words = random_words(6, blocks * sha1_compress_words(n).drawn);
+            let mut rest = &words[..];
+            let mut inner = state.inner;
+            for block in padded.chunks(64) {
+                inner = compress_done(n, inner, &public_bytes(n, block), &mut rest);
+            }
+            let mut block = inner.shares[..5 * n].to_vec();
+            block.extend(public(n, &[0x80000000, 0, 0, 0, 0, 0, 0, 0, 0, 0, 672]));
+            let outer = compress_done(n, state.outer, &block, &mut rest);
+            assert!(rest.is_empty());
+            let opened = outer.shares[..5 * n].chunks(n).map(xor_of);
+            let expected: Vec<u8> = opened.flat_map(|word| word.to_be_bytes()).collect();
+            let finished = State {
+                finished: 1,
+                ..state
+            };
+            let end = finish_done(state, &mut &words[..]);
+            assert_eq!(end, (finished, expected));
+        }
+    }
+}
+
+// Every cut gives the tag of the one-call form, and one end state.
+
+#[test]
+fn every_piece_leads_from_its_place_to_the_next() {
+    // From the state after any a bytes, feeding bytes a to b leads to the state after b bytes, so
+    // any run of pieces, empty ones included, goes through the same states.
+    for (n, length) in [(1, 70), (2, 70), (4, 66), (8, 65)] {
+        let message = random_bytes(1, length);
+        let key = split_key_done(n, b"any cut", 2);
+        let words = random_words(3, hmac_sha1_words(n, length).drawn);
+        let mut rest = &words[..];
+        let start = start_done(n, &key, &mut rest);
+        let mut reached = Vec::new();
+        for place in 0..=length {
+            let mut rest = rest;
+            let state = feed_done(start, &message[..place], &mut rest);
+            reached.push((state, rest));
+        }
+        assert_eq!(reached[0], (start, rest));
+        let step = if n < 4 { 1 } else { 21 };
+        for a in (0..=length).step_by(step) {
+            for b in a..=length {
+                let (state, mut rest) = reached[a];
+                let state = feed_done(state, &message[a..b], &mut rest);
+                assert_eq!((state, rest), reached[b], "n {n}, from {a} to {b}");
+            }
+        }
+        let (state, mut rest) = reached[length];
+        let (end, tag) = finish_done(state, &mut rest);
+        assert!(rest.is_empty());
+        assert_eq!((end.n, end.bytes, end.finished), (n, length as u64, 1));
+        assert_eq!(tag, hmac_done(n, b"any cut", &message, 4));
+    }
+}
+
+#[test]
+fn every_cut_in_two_gives_one_end_state_and_the_one_call_tag() {
+    for (n, length, step) in [(1, 130, 1), (2, 66, 3), (4, 57, 8), (8, 64, 16)] {
+        let message = random_bytes(5, length);
+        let key = split_key_done(n, b"a cut in two", 6);
+        let words = random_words(7, hmac_sha1_words(n, length).drawn);
+        let whole = stream_done(n, &key, &[&message], &words);
+        let mut tag = [0xa5; 20];
+        let answer = hmac_sha1(n, &key, &message, &mut tag, &words);
+        assert_eq!(answer, done(words.len() as u64));
+        assert_eq!(whole.1, tag);
+        for cut in (0..=length).step_by(step) {
+            let (one, two) = message.split_at(cut);
+            let pieces = [b"", one, b"", two, b""];
+            let end = stream_done(n, &key, &pieces, &words);
+            assert_eq!(end, whole, "n {n}, cut at {cut}");
+        }
+    }
+}
+
+#[test]
+fn pieces_of_one_length_give_the_plain_tag() {
+    for n in [1, 2] {
+        for length in [0, 1, 55, 56, 63, 64, 65, 119, 120, 128, 200] {
+            let message = random_bytes(8, length);
+            let key = split_key_done(n, b"in pieces", 9);
+            let words = random_words(10, hmac_sha1_words(n, length).drawn);
+            let whole = stream_done(n, &key, &[&message], &words);
+            assert_eq!(whole.1, plain_hmac(b"in pieces", &message));
+            for size in [1, 3, 64, 100] {
+                let pieces: Vec<&[u8]> = message.chunks(size).collect();
+                assert_eq!(stream_done(n, &key, &pieces, &words), whole);
+            }
+        }
+    }
+}
+
+#[test]
+fn rfc_2202_in_pieces() {
+    let cases: [(&[u8], &[u8]); 4] = [
+        (&[0x0b; 20], b"Hi There"),
+        (b"Jefe", b"what do ya want for nothing?"),
+        (&[0xaa; 20], &[0xdd; 50]),
+        (&[0x0c; 20], b"Test With Truncation"),
+    ];
+    let tags = [0xb6173186, 0xeffcdf6a, 0x125d7342, 0x4c1a0342u32];
+    for n in COUNTS {
+        for ((key, message), first_word) in cases.into_iter().zip(tags) {
+            let shares = split_key_done(n, key, 1);
+            let words = random_words(2, hmac_sha1_words(n, message.len()).drawn);
+            let pieces: Vec<&[u8]> = message.chunks(7).collect();
+            let (_, tag) = stream_done(n, &shares, &pieces, &words);
+            assert_eq!(tag[..4], first_word.to_be_bytes());
+            assert_eq!(tag, plain_hmac(key, message));
+        }
+    }
+}
+
+// The counts.
+
+#[test]
+fn counts_of_words() {
+    for n in COUNTS {
+        let one = sha1_compress_words(n).drawn;
+        assert_eq!(hmac_sha1_start_words(n), done(2 * one));
+        for bytes in [0, 1, 55, 56, 63, 64, 65, 127, 4031, 4032, 4095, 4096] {
+            let state = made_up(n, bytes, 0, 1);
+            for length in 0..=4096 - bytes {
+                let blocks = (bytes + length) / 64 - bytes / 64;
+                let query = hmac_sha1_feed_words(state, length as usize);
+                assert_eq!(query, done(blocks * one));
+            }
+            let blocks = if bytes % 64 < 56 { 2 } else { 3 };
+            assert_eq!(hmac_sha1_finish_words(state), done(blocks * one));
+            // All in all a message draws what it draws in the one-call form.
+            let fed = hmac_sha1_feed_words(made_up(n, 0, 0, 1), bytes as usize);
+            let sum = (2 + blocks) * one + fed.drawn;
+            assert_eq!(hmac_sha1_words(n, bytes as usize), done(sum));
+        }
+    }
+}
+
+#[test]
+fn queries_name_what_is_drawn_and_one_word_less_is_refused() {
+    for n in [2, 4, 8] {
+        let key = random_words(1, 16 * n as u64);
+        let piece = random_bytes(2, 66);
+        let state = made_up(n, 62, 0, 3);
+        type Call<'a> = Box<dyn Fn(&[u32]) -> (Streamed, [u8; 20]) + 'a>;
+        let start = |words: &[u32]| (hmac_sha1_start(n, &key, words), [0xa5; 20]);
+        let feed = |words: &[u32]| (hmac_sha1_feed(state, &piece, words), [0xa5; 20]);
+        let calls: [(Answer, State, Call); 3] = [
+            (hmac_sha1_start_words(n), ZEROS, Box::new(start)),
+            (hmac_sha1_feed_words(state, 66), state, Box::new(feed)),
+            (
+                hmac_sha1_finish_words(state),
+                state,
+                Box::new(|words| finish(state, words)),
+            ),
+        ];
+        for (query, given, call) in calls {
+            assert_eq!(query.number, 0);
+            let drawn = query.drawn as usize;
+            let words = random_words(4, query.drawn + 5);
+            let accepted = call(&words[..drawn]);
+            assert_eq!(answer_of(accepted.0), query);
+            // Words after those drawn have no influence.
+            assert_eq!(call(&words), accepted);
+            for less in [drawn - 1, drawn / 2, 1, 0] {
+                assert_eq!(call(&words[..less]), (left(5, given), [0xa5; 20]));
+            }
+        }
+    }
+}
+
+#[test]
+fn a_piece_that_completes_no_block_needs_no_words() {
+    for n in COUNTS {
+        for (bytes, length) in [(0, 0), (0, 63), (1, 62), (63, 0), (64, 63), (4096, 0)] {
+            let state = made_up(n, bytes, 0, 1);
+            let piece = random_bytes(2, length);
+            let streamed = hmac_sha1_feed(state, &piece, &[]);
+            assert_eq!(answer_of(streamed), done(0));
+            assert_eq!(hmac_sha1_feed_words(state, length), done(0));
+            let filled = bytes as usize % 64;
+            let mut expected = without_junk(state);
+            expected.bytes += length as u64;
+            expected.tail[filled..filled + length].copy_from_slice(&piece);
+            assert_eq!(streamed.state, expected);
+        }
+    }
+}
+
+// What is not read, what is cleared and what is kept.
+
+#[test]
+fn junk_is_not_read_and_feed_clears_it() {
+    for n in COUNTS {
+        for (bytes, length) in [(0, 0), (0, 10), (10, 0), (10, 53), (10, 54), (60, 70)] {
+            let state = without_junk(made_up(n, bytes, 0, 1));
+            let piece = random_bytes(2, length);
+            let words = random_words(3, hmac_sha1_feed_words(state, length).drawn);
+            let streamed = hmac_sha1_feed(state, &piece, &words);
+            assert_eq!(streamed.number, 0);
+            assert_eq!(streamed.state, without_junk(streamed.state));
+            for seed in 4..7 {
+                let junk = with_junk(state, seed);
+                assert_eq!(hmac_sha1_feed(junk, &piece, &words), streamed);
+            }
+        }
+    }
+}
+
+#[test]
+fn an_empty_feed_only_clears() {
+    for n in COUNTS {
+        for bytes in [0, 1, 63, 64, 4095, 4096] {
+            let state = made_up(n, bytes, 0, bytes + 1);
+            let streamed = hmac_sha1_feed(state, &[], &[1, 2, 3]);
+            assert_eq!(answer_of(streamed), done(0));
+            assert_eq!(streamed.state, without_junk(state));
+            let again = hmac_sha1_feed(streamed.state, &[], &[]);
+            assert_eq!(again, streamed);
+        }
+    }
+}
+
+#[test]
+fn junk_is_not_read_and_finish_keeps_it() {
+    for n in COUNTS {
+        for bytes in [0, 10, 60, 64] {
+            let state = without_junk(made_up(n, bytes, 0, 1));
+            let words = random_words(2, hmac_sha1_finish_words(state).drawn);
+            let (_, tag) = finish_done(state, &mut &words[..]);
+            for seed in 3..6 {
+                let junk = with_junk(state, seed);
+                let finished = State {
+                    finished: 1,
+                    ..junk
+                };
+                let end = finish_done(junk, &mut &words[..]);
+                assert_eq!(end, (finished, tag.clone()));
+            }
+        }
+    }
+}
+
+// Finishing, and going on from a state that was kept.
+
+#[test]
+fn a_state_is_a_value_and_can_be_finished_again() {
+    for n in COUNTS {
+        let message = random_bytes(1, 80);
+        let key = split_key_done(n, b"twice", 2);
+        let words = random_words(3, hmac_sha1_words(n, 80).drawn);
+        let mut rest = &words[..];
+        let state = start_done(n, &key, &mut rest);
+        let state = feed_done(state, &message[..30], &mut rest);
+        let first = finish_done(state, &mut &words[..]);
+        assert_eq!(first.1, plain_hmac(b"twice", &message[..30]));
+        assert_eq!(finish_done(state, &mut &words[..]), first);
+        let others = random_words(4, words.len() as u64);
+        assert_eq!(finish_done(state, &mut &others[..]), first);
+        let state = feed_done(state, &message[30..], &mut rest);
+        let (_, tag) = finish_done(state, &mut rest);
+        assert_eq!(tag, plain_hmac(b"twice", &message));
+    }
+}
+
+#[test]
+fn after_finish_everything_is_refused() {
+    for n in COUNTS {
+        let words = random_words(1, 4 * sha1_compress_words(n).drawn);
+        for mark in [1, 2, 0x80000000, u32::MAX] {
+            let (mut state, _) = finish_done(made_up(n, 20, 0, 2), &mut &words[..]);
+            assert_eq!(state.finished, 1);
+            state.finished = mark;
+            for length in [0, 44, 4076, 4077] {
+                let piece = vec![7; length];
+                assert_eq!(hmac_sha1_feed(state, &piece, &words), left(6, state));
+                assert_eq!(hmac_sha1_feed(state, &piece, &[]), left(6, state));
+                assert_eq!(hmac_sha1_feed_words(state, length), refused(6));
+            }
+            assert_eq!(finish(state, &words), (left(6, state), [0xa5; 20]));
+            assert_eq!(finish(state, &[]), (left(6, state), [0xa5; 20]));
+            assert_eq!(hmac_sha1_finish_words(state), refused(6));
+        }
+    }
+}
+
+// The limits and the refusals.
+
+#[test]
+fn the_limit_counts_all_pieces() {
+    let message = random_bytes(1, 4097);
+    for n in [1, 2] {
+        let key = split_key_done(n, b"limit", 2);
+        let words = random_words(3, hmac_sha1_words(n, 4096).drawn);
+        let mut rest = &words[..];
+        let mut state = start_done(n, &key, &mut rest);
+        for piece in message[..4000].chunks(999) {
+            state = feed_done(state, piece, &mut rest);
+        }
+        let over = hmac_sha1_feed(state, &message[4000..], rest);
+        assert_eq!(over, left(4, state));
+        let state = feed_done(state, &message[4000..4096], &mut rest);
+        assert_eq!(state.bytes, 4096);
+        assert_eq!(feed_done(state, &[], &mut rest), state);
+        let one_more = hmac_sha1_feed(state, &message[4096..], rest);
+        assert_eq!(one_more, left(4, state));
+        let (end, tag) = finish_done(state, &mut rest);
+        assert!(rest.is_empty());
+        assert_eq!((end.bytes, end.finished), (4096, 1));
+        assert_eq!(tag, plain_hmac(b"limit", &message[..4096]));
+    }
+}
+
+#[test]
+fn lengths_at_the_limit() {
+    let message = random_bytes(1, 4097);
+    for n in COUNTS {
+        for bytes in [0, 1, 4000, 4032, 4095, 4096] {
+            let state = made_up(n, bytes, 0, 2);
+            let room = 4096 - bytes as usize;
+            for length in [room + 1, room + 2, 1 << 32, usize::MAX - 1, usize::MAX] {
+                assert_eq!(hmac_sha1_feed_words(state, length), refused(4));
+            }
+            assert_eq!(hmac_sha1_feed_words(state, room).number, 0);
+            let over = hmac_sha1_feed(state, &message[..room + 1], &[]);
+            assert_eq!(over, left(4, state));
+            if n == 1 || room < 100 {
+                let words = random_words(3, hmac_sha1_feed_words(state, room).drawn);
+                let after = feed_done(state, &message[..room], &mut &words[..]);
+                assert_eq!(after.bytes, 4096);
+            }
+        }
+    }
+}
+
+#[test]
+fn a_byte_count_past_the_limit_is_six() {
+    let message = random_bytes(1, 4097);
+    for n in COUNTS {
+        for bytes in [4097, 4160, 1 << 32, u64::MAX - 4096, u64::MAX - 1, u64::MAX] {
+            let state = made_up(n, bytes, 0, 5);
+            assert_eq!(hmac_sha1_feed_words(state, 0), refused(6));
+            assert_eq!(hmac_sha1_feed_words(state, usize::MAX), refused(6));
+            assert_eq!(hmac_sha1_finish_words(state), refused(6));
+            assert_eq!(hmac_sha1_feed(state, &[], &[]), left(6, state));
+            assert_eq!(hmac_sha1_feed(state, &message, &[]), left(6, state));
+            assert_eq!(finish(state, &[]), (left(6, state), [0xa5; 20]));
+        }
+    }
+}
+
+#[test]
+fn a_refused_start_is_zeros() {
+    for n in WRONG_COUNTS {
+        assert_eq!(hmac_sha1_start_words(n), refused(1));
+        for length in [0, 1, 16, 48, 256] {
+            let key = random_words(1, length);
+            assert_eq!(hmac_sha1_start(n, &key, &[]), left(1, ZEROS));
+            assert_eq!(hmac_sha1_start(n, &key, &[9; 9]), left(1, ZEROS));
+        }
+    }
+    for n in COUNTS {
+        let words = random_words(2, hmac_sha1_start_words(n).drawn);
+        for other in [0, n, 16 * n - 1, 16 * n + 1, 32 * n] {
+            let key = vec![1; other];
+            assert_eq!(hmac_sha1_start(n, &key, &[]), left(2, ZEROS));
+            assert_eq!(hmac_sha1_start(n, &key, &words), left(2, ZEROS));
+        }
+    }
+    // What a refused start leaves is refused in turn.
+    assert_eq!(hmac_sha1_feed(ZEROS, &[], &[]), left(6, ZEROS));
+    assert_eq!(finish(ZEROS, &[]), (left(6, ZEROS), [0xa5; 20]));
+    assert_eq!(hmac_sha1_feed_words(ZEROS, 0), refused(6));
+    assert_eq!(hmac_sha1_finish_words(ZEROS), refused(6));
+}
+
+#[test]
+fn a_state_without_an_allowed_count_is_six_and_never_one() {
+    for n in WRONG_COUNTS {
+        for (bytes, finished) in [(0, 0), (20, 0), (4096, 0), (20, 1), (u64::MAX, 9)] {
+            let state = made_up(n, bytes, finished, 1);
+            for length in [0, 1, 64, 4097] {
+                let piece = vec![7; length];
+                assert_eq!(hmac_sha1_feed(state, &piece, &[]), left(6, state));
+                assert_eq!(hmac_sha1_feed_words(state, length), refused(6));
+            }
+            for length in [0, 19, 20, 21] {
+                let mut tag = vec![0xa5; length];
+                assert_eq!(hmac_sha1_finish(state, &mut tag, &[]), left(6, state));
+                assert_eq!(tag, vec![0xa5; length]);
+            }
+            assert_eq!(hmac_sha1_finish_words(state), refused(6));
+        }
+    }
+}
+
+#[test]
+fn tags_of_another_length_stay() {
+    for n in COUNTS {
+        let state = made_up(n, 60, 0, 1);
+        let finished = made_up(n, 60, 1, 1);
+        let words = random_words(2, hmac_sha1_finish_words(state).drawn);
+        for other in [0, 1, 19, 21, 40] {
+            let mut tag = vec![0xa5; other];
+            for lent in [&words[..], &[]] {
+                assert_eq!(hmac_sha1_finish(state, &mut tag, lent), left(3, state));
+                let after = hmac_sha1_finish(finished, &mut tag, lent);
+                assert_eq!(after, left(6, finished));
+            }
+            assert_eq!(tag, vec![0xa5; other]);
+        }
+    }
+}
+
+/// The number that a feed has to give, in numbers wide enough for any sum.
+fn feed_number(state: State, length: usize, lent: u64) -> u32 {
+    let sum = state.bytes as u128 + length as u128;
+    if state.finished != 0 || !COUNTS.contains(&state.n) || state.bytes > 4096 {
+        6
+    } else if sum > 4096 {
+        4
+    } else {
+        let blocks = sum as u64 / 64 - state.bytes / 64;
+        if blocks * sha1_compress_words(state.n).drawn > lent {
+            5
+        } else {
+            0
+        }
+    }
+}
+
+#[test]
+fn any_state_at_all_can_be_fed_or_refused() {
+    let some = [0, 1, 63, 64, 4095, 4096, 4097, u64::MAX - 64, u64::MAX];
+    let words = random_words(1, sha1_compress_words(4).drawn);
+    for n in COUNTS.into_iter().chain(WRONG_COUNTS) {
+        for (place, bytes) in some.into_iter().enumerate() {
+            for finished in [0, 0, 1, 2, u32::MAX] {
+                let state = made_up(n, bytes, finished, place as u64 + 2);
+                for length in [0, 1, 2, 63, 64, 65, 4097] {
+                    let number = feed_number(state, length, words.len() as u64);
+                    let streamed = hmac_sha1_feed(state, &vec![7; length], &words);
+                    assert_eq!(streamed.number, number);
+                    let query = hmac_sha1_feed_words(state, length);
+                    if number == 0 {
+                        assert_eq!(answer_of(streamed), query);
+                        assert_eq!(streamed.state.bytes, bytes + length as u64);
+                    } else {
+                        assert_eq!(streamed, left(number, state));
+                        let named = if number == 5 { 0 } else { number };
+                        assert_eq!(query.number, named);
+                    }
+                }
+            }
+        }
+    }
+}
+
+#[test]
+fn any_state_at_all_can_be_finished_or_refused() {
+    let some = [0, 1, 55, 56, 4095, 4096, 4097, u64::MAX - 64, u64::MAX];
+    let words = random_words(1, sha1_compress_words(4).drawn);
+    for n in COUNTS.into_iter().chain(WRONG_COUNTS) {
+        for (place, bytes) in some.into_iter().enumerate() {
+            for mark in [0, 1, 2, u32::MAX] {
+                let state = made_up(n, bytes, mark, place as u64 + 2);
+                let (streamed, tag) = finish(state, &words);
+                if mark != 0 || !COUNTS.contains(&n) || bytes > 4096 {
+                    assert_eq!((streamed, tag), (left(6, state), [0xa5; 20]));
+                    assert_eq!(hmac_sha1_finish_words(state), refused(6));
+                } else if n > 2 {
+                    // Two compressions or three, and the words are those of one at 4 shares.
+                    assert_eq!((streamed, tag), (left(5, state), [0xa5; 20]));
+                } else {
+                    let finished = 1;
+                    assert_eq!(streamed.state, State { finished, ..state });
+                    assert_eq!(answer_of(streamed), hmac_sha1_finish_words(state));
+                }
+            }
+        }
+    }
+}
