@@ -59,7 +59,7 @@ module _ (n : ℕ) (ws : List ℕ) (at : ℕ) where
       → hash .compress n (publics n H0) (marked n 0x5c5c5c5c 16 0 key) ws q ≡ (o, r)
       → hash .compress n o (d ++ publics n (digestPadding (SHA1 32))) ws r ≡ e → hmacShares hash n key text ws at ≡ e
   unfolding hmacShares numberOf
-  hmac-made key text a b c f = rw (ending-blocks (SHA1 32) sha1-proper 1 64 refl text, a, b, c, f)
+  hmac-made key text a b c f = rw (ending-blocks (SHA1 32) (sha1-proper 32) 1 64 refl text, a, b, c, f)
 
 -- ---- the blocks of a text, one after the other: j of them done
 abbrev pub Left : ℕ → List ℕ → List ℕ → ℕ → ℕ → List ℕ → ℕ → Run

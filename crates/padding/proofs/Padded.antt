@@ -102,10 +102,10 @@ word-made m bs i h ea eb ec ed er = er ∙ rw (ea, eb, ec, ed) (sym (word-of m b
 -- ---- the words of a text
 module _ (before : ℕ) (text : List ℕ) (aligned : before % 64 ≡ 0) where
   length-ended : length (ended H before text) ≡ 64 * blocksIn (length text)
-  length-ended = ended-length H sha1-proper (before / 64) before (omega arith) text
+  length-ended = ended-length H (sha1-proper 32) (before / 64) before (omega arith) text
 
   length-ending : length (ending H before text) ≡ 16 * blocksIn (length text)
-  length-ending = ending-length H sha1-proper (before / 64) before (omega arith) text
+  length-ending = ending-length H (sha1-proper 32) (before / 64) before (omega arith) text
 
   pub text-word : (i : ℕ) {a b c d r : ℕ} → i < blocksIn (length text) * 16
       → a ≡ getD (ended H before text) (4 * i) 0 → b ≡ getD (ended H before text) (4 * i + 1) 0

@@ -37,7 +37,7 @@ use Rattle.rules.proofs.MaskedHmac.{Keeps}
 use Rattle.rules.proofs.Sizes.{add-sizes, compress-sized, hmacTag-sized, splitKey-sized, sha1-size}
 use Rattle.rules.proofs.Sizes.{andDraws-twice, compress-count}
 use Rattle.rules.proofs.Opens.{Masks, sha1-opens, compress-opens}
-use Rattle.rules.proofs.Tags.{sha1-proper, splitKey-opens, hmacTag-is}
+use Rattle.rules.proofs.Tags.{sha1-proper, sha1-chains, splitKey-opens, hmacTag-is}
 use Rattle.rules.proofs.Outcomes.{says-count, says-eq, untested, passed, given, settles, settled-pair, asked}
 use Rattle.rules.proofs.Outcomes.{place, says-supply, alike, as-long}
 
@@ -130,7 +130,7 @@ module _ (n : ℕ) (count : Allowed n) where
   pub hmacTag-law : (key text : List ℕ) → length key ≡ 16 * n
       → Rule (((length text + 8) / 64 + 4) * (5220 * (n * (n - 1)))) (λ t. length t ≡ 20) (hmacTag (sha1 32) n key text)
   hmacTag-law key text size =
-      counted (hmacTag-sized (sha1 32) n some (sha1-size n some) sha1-proper key text size)
+      counted (hmacTag-sized (sha1 32) n some (sha1-size n some) (sha1-proper 32) key text size)
       (ap (λ d. ((length text + 8) / 64 + 4) * d) (compress-count n))
 
   pub tags : (key text : List ℕ) → Words 8 key → Words 8 text → length key ≤ 64 → (ws : List ℕ)
@@ -141,7 +141,7 @@ module _ (n : ℕ) (count : Allowed n) where
       record {
         made = λ came vs w h.
             rw h
-            (hmacTag-is (sha1 32) n some sha1-proper sha1-keeps key text shares vs 0 short keys texts
+            (hmacTag-is (sha1 32) n some (sha1-proper 32) sha1-chains sha1-keeps key text shares vs 0 short keys texts
             (splitKey-law key .makes ws 0) (splitKey-opens (SHA1 32) n key ws 0 some));
       }
 

@@ -6,8 +6,8 @@ use native.Mathlib.Nat.{mul-add-div, mul-div-right, mul-assoc, mul-comm, mul-add
 use native.Mathlib.Omega.{arith}
 use lib.Bits.{bitXor}
 use lib.Dec.{lit<}
-use lib.ListN.{length, replicate, take, drop, length-append, length-map, length-replicate}
-use lib.Seq.{take-at, drop-at, take-all, drop-drop}
+use lib.ListN.{length, replicate, take, drop, length-append, length-drop, length-map, length-replicate}
+use lib.Seq.{take-at, drop-at, take-all, drop-drop, take-append-le, drop-append-le}
 use Rattle.rules.specs.Supply.{Words}
 use Rattle.rules.specs.Hash.{Hash, blockBytes, chainWords, digestBytes, wordsOf, allBytes, padding, ended, ending}
 use Rattle.rules.specs.Hash.{blocks, digest, keyBlock, hmac}
@@ -19,13 +19,16 @@ use Rattle.rules.proofs.Bytes.{words-append, words-back, words-xor}
 abbrev pub Chained : Hash → List ℕ → Type 0
 Chained H h = (length h ≡ chainWords H) × Words (8 * H .wordBytes) h
 
--- a text with its padding is whole blocks; the digest and its padding are one block; a compression makes a chain
+-- a text with its padding is whole blocks; the digest and its padding are one block
 pub record Proper (H : Hash) : Type 0 where
   pub some : 0 < H .wordBytes
   pub whole : (l : ℕ) → l + length (padding H l) ≡ blockBytes H * ((l + H .lengthBytes) / blockBytes H + 1)
   pub rest : length (padding H (blockBytes H + digestBytes H)) ≡ (16 - chainWords H) * H .wordBytes
   pub short : chainWords H ≤ 16
-  pub makes : (h B : List ℕ) → length h ≡ chainWords H → Chained H (H .compress h B)
+
+-- a compression makes a chain
+abbrev pub Chains : Hash → Type 0
+Chains H = (h B : List ℕ) → length h ≡ chainWords H → Chained H (H .compress h B)
 
 -- HMAC's words, of a key in words: the message's blocks after the inner key block, then the digest block after the outer
 abbrev lastOf : Hash → List ℕ → List ℕ → List ℕ → List ℕ
@@ -88,12 +91,12 @@ module _ (H : Hash) (proper : Proper H) where
   one-block = omega arith
 
   -- ---- chains
-  blocks-chain : (m : ℕ) (W h : List ℕ) → Chained H h → Chained H (blocks H m W h)
+  blocks-chain : Chains H → (m : ℕ) (W h : List ℕ) → Chained H h → Chained H (blocks H m W h)
   unfolding blocks
-  blocks-chain zero W h c = c
-  blocks-chain (suc m) W h c = blocks-chain m (drop 16 W) _ (proper .makes h (take 16 W) (c .0))
+  blocks-chain chains zero W h c = c
+  blocks-chain chains (suc m) W h c = blocks-chain chains m (drop 16 W) _ (chains h (take 16 W) (c .0))
 
-  pub blocks-append : (m p : ℕ) (W h : List ℕ) → blocks H (m + p) W h ≡ blocks H p (drop (m * 16) W) (blocks H m W h)
+  blocks-append : (m p : ℕ) (W h : List ℕ) → blocks H (m + p) W h ≡ blocks H p (drop (m * 16) W) (blocks H m W h)
   unfolding blocks
   blocks-append zero p W h = rw zero-add
   blocks-append (suc m) p W h =
@@ -102,6 +105,19 @@ module _ (H : Hash) (proper : Proper H) where
       (blocks-append m p (drop 16 W) (H .compress h (take 16 W))
       ∙ ap (λ t. blocks H p t (blocks H m (drop 16 W) (H .compress h (take 16 W))))
       (drop-drop (m * 16) 16 W ∙ ap (λ t. drop t W) place))
+
+  blocks-front : (m : ℕ) (x y h : List ℕ) → m * 16 ≤ length x → blocks H m (x ++ y) h ≡ blocks H m x h
+  unfolding blocks
+  blocks-front zero x y h room = refl
+  blocks-front (suc m) x y h room =
+      let one : 16 ≤ length x = omega (arith, suc-mul m 16) in
+      let rest : m * 16 ≤ length (drop 16 x) = rw (length-drop 16 x) (omega (arith, suc-mul m 16)) in
+      rw (take-append-le 16 x y one, drop-append-le 16 x y one) (blocks-front m (drop 16 x) y _ rest)
+
+  pub blocks-joined : (m p : ℕ) (x y h : List ℕ) → length x ≡ m * 16 → blocks H (m + p) (x ++ y) h ≡ blocks H p y (blocks H m x h)
+  blocks-joined m p x y h l =
+      blocks-append m p (x ++ y) h
+      ∙ ap₂ (λ t u. blocks H p t u) (drop-at x y (m * 16) l) (blocks-front m x y h (omega arith))
 
   blocks-next : (m : ℕ) (W h : List ℕ) → blocks H (suc m) W h ≡ blocks H m (drop 16 W) (H .compress h (take 16 W))
   unfolding blocks
@@ -179,15 +195,15 @@ module _ (H : Hash) (proper : Proper H) where
     key-bytes = words-join 8 key (replicate (B - length key) 0) bytes (words-zeros 8 (B - length key))
 
     -- over the key's words it is the standard's HMAC
-    pub hmacOf-is : allBytes size (hmacOf H (wordsOf size 16 (keyBlock H key)) text) ≡ hmac H key text
+    pub hmacOf-is : Chains H → allBytes size (hmacOf H (wordsOf size 16 (keyBlock H key)) text) ≡ hmac H key text
     unfolding hmacOf hmac
-    hmacOf-is =
+    hmacOf-is chains =
         let b = keyBlock H key in
         let W = ending H B text in
         let x = map (bitXor 0x36) b in
         let y = map (bitXor 0x5c) b in
         let first = H .compress (H .start) (wordsOf size 16 x) in
-        let chain = blocks-chain (length W / 16) W first (proper .makes (H .start) (wordsOf size 16 x) refl) in
+        let chain = blocks-chain chains (length W / 16) W first (chains (H .start) (wordsOf size 16 x) refl) in
         sym (ap₂ (λ i o. allBytes size (lastOf H text i o)) (marks 0x36 (lit< tt)) (marks 0x5c (lit< tt)))
         ∙ sym (digest-last (blocks H (length W / 16) W first) chain y (xored 0x5c))
         ∙ ap (λ t. digest H (y ++ t)) (sym (digest-front x text (xored 0x36) W refl))
@@ -198,3 +214,16 @@ module _ (H : Hash) (proper : Proper H) where
         marks : (v : ℕ) → v < 256
             → wordsOf size 16 (map (bitXor v) (keyBlock H key)) ≡ map (λ w. bitXor w (everyByte H v)) (wordsOf size 16 (keyBlock H key))
         marks v h = words-xor v size 16 (keyBlock H key) h key-bytes key-length
+
+  -- of a text in whole blocks and a rest: the blocks first, and then the rest with its padding
+  pub last-blocks : (m : ℕ) (x y h : List ℕ) → length x ≡ m * B
+      → (let W = ending H B (x ++ y) in let rest′ = ending H ((m + 1) * B) y in
+      blocks H (length W / 16) W h ≡ blocks H (length rest′ / 16) rest′ (blocks H m (wordsOf size (m * 16) x) h))
+  last-blocks m x y h front =
+      let X = wordsOf size (m * 16) x in
+      let Y = ending H ((m + 1) * B) y in
+      let after : B + m * B ≡ (m + 1) * B = omega (arith, add-mul m 1 B) in
+      let parts : ending H B (x ++ y) ≡ X ++ Y = ending-front m B x y front ∙ ap (λ t. X ++ ending H t y) after in
+      let sixteen : length X ≡ m * 16 = length-words size (m * 16) x in
+      let many : length (X ++ Y) / 16 ≡ m + length Y / 16 = omega (arith, length-append X Y) in
+      rw (parts, many) (blocks-joined m (length Y / 16) X Y h sixteen)

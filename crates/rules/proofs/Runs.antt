@@ -1,25 +1,28 @@
 -- Runs of feeds from a start: how the message is cut has no say, how many words are drawn in all, and whose tag it is.
 use Prim.Native.Nat.{ℕ, zero, suc, _+_, _-_, _*_, _/_, _%_, _≤_, _<_}
 use mathlib.Core.Path.{_≡_, refl, sym, ap, ap₂, _∙_, subst}
-use mathlib.Core.List.{List, [], _∷_, _++_, append-assoc, append-nil}
-use native.Mathlib.Nat.{zero-add, add-zero, add-mul}
+use mathlib.Core.List.{List, [], _∷_, _++_, map, append-assoc, append-nil}
+use native.Mathlib.Nat.{zero-add, add-mul, mul-assoc}
 use native.Mathlib.Omega.{arith}
-use lib.ListN.{length, getD, take, drop, length-append, length-drop, List·getD-append}
-use lib.Seq.{getD-append-add, getD-take, length-take-le}
+use lib.Bits.{bitXor}
+use lib.ListN.{length, getD, take, drop, length-append, length-drop, take-append-drop, List·getD-append}
+use lib.Seq.{getD-append-add, getD-take, length-take-le, drop-nil}
 use borrow.Author.Tests.{leb-true}
 use Rattle.rules.specs.declared.State.{State}
 use Rattle.rules.specs.Supply.{Rule, Agree}
 use Rattle.rules.specs.Numbers.{first}
-use Rattle.rules.specs.Hash.{Hash, blockBytes, chainWords}
-use Rattle.rules.specs.Hmac.{Masked}
-use Rattle.rules.specs.Counts.{feedDraws}
+use Rattle.rules.specs.Hash.{Hash, blockBytes, chainWords, wordsOf, ending, blocks as blocksOf}
+use Rattle.rules.specs.Hmac.{Masked, everyByte, tagOf}
+use Rattle.rules.specs.Counts.{feedDraws, finishDraws}
 use Rattle.rules.specs.Calls.{call}
-use Rattle.rules.specs.Stream.{Feeds, state, fullBlocks, feed, feedCall, message, after, drawn, Accepted}
+use Rattle.rules.specs.Stream.{Feeds, state, fullBlocks, feed, finish, feedCall, message, after, drawn, Accepted}
 use Rattle.rules.proofs.Rule.{said, alike}
-use Rattle.rules.proofs.Goods.{goods-size}
+use Rattle.rules.proofs.Bytes.{length-words, words-front, words-split}
+use Rattle.rules.proofs.Hashes.{Proper, blocks-joined, last-blocks, hmacOf}
+use Rattle.rules.proofs.Goods.{Goods, goods-size}
 use Rattle.rules.proofs.MaskedHmac.{Keeps}
 use Rattle.rules.proofs.Sizes.{Sized, words-size}
-use Rattle.rules.proofs.Streaming.{full-rule, Made, made-fed, Fed, fed-rule, fedFrom, nothing, joined, rest-size}
+use Rattle.rules.proofs.Streaming.{Readable, left-over, whole-part, full-rule, dropped, counted-so, ends-so, Made, made-fed, made-finished, Fed, fed-rule, finished-rule, fedFrom, nothing, joined, rest-size}
 use Rattle.rules.proofs.Calls.{passed, holds}
 
 -- ---- words drawn, and words after them
@@ -153,3 +156,143 @@ module _ (M : Masked) (n : ℕ) (some : 0 < n) (keeps : Keeps M n (λ v. Unit {0
       → message fs ≡ message gs → drawn M s fs ≡ drawn M s gs → after M s fs ≡ after M s gs
   any-cutting s clean fs gs f g bytes words =
       run-is fs s clean f ∙ ap₂ (λ m ws. feed M s m ws 0 .0) bytes words ∙ sym (run-is gs s clean g)
+
+-- ---- what a state holds of a message, under a key in words
+module _ {M : Masked} {n : ℕ} {Fits : ℕ → Type 0} {Good : List ℕ → ℕ → Type 0} (keeps : Keeps M n Fits Good)
+    (proper : Proper (M .standard)) (sixty-four : blockBytes (M .standard) ≡ 64) (KEY : List ℕ) where
+  abbrev S : Hash
+  S = M .standard
+
+  abbrev B : ℕ
+  B = blockBytes S
+
+  abbrev keyed : ℕ → List ℕ
+  keyed b = S .compress (S .start) (map (λ w. bitXor w (everyByte S b)) KEY)
+
+  abbrev innerOf : List ℕ → List ℕ
+  innerOf text = blocksOf S (length text / B) (wordsOf (S .wordBytes) (length text / B * 16) text) (keyed 0x36)
+
+  pub record Holds (text : List ℕ) (s : State) : Type 0 where
+    pub inner : List ℕ
+    pub outer : List ℕ
+    pub is : s ≡ state n (length text) inner outer (drop (length text / B * B) text)
+    pub inner-good : Goods Good (chainWords S) inner (innerOf text)
+    pub outer-good : Goods Good (chainWords S) outer (keyed 0x5c)
+
+  pub holds-none : (s : State) (inner outer : List ℕ) → s ≡ state n 0 inner outer [] → Goods Good (chainWords S) inner (keyed 0x36)
+      → Goods Good (chainWords S) outer (keyed 0x5c) → Holds [] s
+  unfolding blocksOf
+  holds-none s inner outer is gi go =
+      record {
+        inner = inner;
+        outer = outer;
+        is = is ∙ ap (state n 0 inner outer) (sym (drop-nil (0 / B * B)));
+        inner-good = rw sixty-four gi;
+        outer-good = go;
+      }
+
+  module _ (text : List ℕ) (s : State) (holds : Holds text s) where
+    abbrev waits : List ℕ
+    waits = drop (length text / B * B) text
+
+    waits-size : length waits ≡ length text % B
+    waits-size = length-drop (length text / B * B) text ∙ left-over B sixty-four (length text)
+
+    made : Made M n (length text) (holds .inner) (holds .outer) waits
+    made =
+        record {
+          inner-size = goods-size (keeps .size) (holds .inner-good);
+          outer-size = goods-size (keeps .size) (holds .outer-good);
+          waits-size = waits-size;
+        }
+
+    -- a piece more
+    module _ (piece : List ℕ) (readable : Readable keeps (waits ++ piece)) where
+      all : List ℕ
+      all = text ++ piece
+
+      more : ℕ
+      more = length (waits ++ piece) / B
+
+      abbrev none : length {A = ℕ} [] ≡ 0 % B
+      none = rw sixty-four refl
+
+      many-so : length all / B ≡ length text / B + more
+      unfolding all more
+      many-so = counted-so M n 0 [] [] [] sixty-four none text piece
+
+      rest-so : drop (more * B) (waits ++ piece) ≡ drop (length all / B * B) all
+      unfolding all more
+      rest-so = sym (ap (λ t. drop (t * B) all) many-so ∙ ends-so M n 0 [] [] [] sixty-four none text piece)
+
+      chain-so : blocksOf S more (wordsOf (S .wordBytes) (more * 16) (waits ++ piece)) (innerOf text) ≡ innerOf all
+      unfolding all more
+      chain-so =
+          let size = S .wordBytes in
+          let m = length text / B in
+          let X = wordsOf size (m * 16) text in
+          let Y = wordsOf size (more * 16) (waits ++ piece) in
+          let front : wordsOf size (m * 16) all ≡ X =
+          words-front size (m * 16) text piece (rw (mul-assoc m 16 size) (whole-part B sixty-four (length text))) in
+          let rest : drop (m * 16 * size) all ≡ waits ++ piece =
+          ap (λ t. drop t all) (mul-assoc m 16 size) ∙ dropped M n 0 [] [] [] sixty-four none text piece in
+          let split : wordsOf size ((m + more) * 16) all ≡ X ++ Y =
+          ap (λ t. wordsOf size t all) (add-mul m more 16) ∙ words-split size (m * 16) (more * 16) all
+          ∙ ap₂ (λ x t. x ++ wordsOf size (more * 16) t) front rest in
+          sym (ap (λ t. blocksOf S t (wordsOf size (t * 16) all) (keyed 0x36)) many-so
+          ∙ ap (λ t. blocksOf S (m + more) t (keyed 0x36)) split
+          ∙ blocks-joined S proper m more X Y (keyed 0x36) (length-words size (m * 16) text))
+
+      pub holds-more : (ws : List ℕ) (at : ℕ) → Holds (text ++ piece) (feed M s piece ws at .0)
+      unfolding all more
+      holds-more ws at =
+          let h = holds in
+          let f = fed-rule keeps (length text) waits waits-size (h .inner-good) (h .outer) piece readable .makes ws at in
+          let reads : feed M s piece ws at .0 ≡ fedFrom M n (length text) (h .inner) (h .outer) waits piece ws at .0 =
+          ap (λ t. feed M t piece ws at .0) (h .is)
+          ∙ ap (λ (r : State × ℕ). r .0) (made-fed M n (length text) (h .inner) (h .outer) waits made piece ws at) in
+          record {
+            inner = f .chain;
+            outer = h .outer;
+            is = reads ∙ f .is ∙ ap₂ (λ l t. state n l (f .chain) (h .outer) t) (sym (length-append text piece)) rest-so;
+            inner-good = rw chain-so at (f .good);
+            outer-good = h .outer-good;
+          }
+
+    -- the tag of what it holds
+    module _ (some : 0 < n) where
+      abbrev last : List ℕ
+      last = ending S ((length text / B + 1) * B) waits
+
+      pub record Tag (t : List ℕ) : Type 0 where
+        pub chain : List ℕ
+        pub is : t ≡ tagOf S n chain
+        pub good : Goods Good (chainWords S) chain (hmacOf S KEY text)
+
+      digest-so : blocksOf S (length last / 16) last (innerOf text)
+          ≡ (let W = ending S B text in blocksOf S (length W / 16) W (keyed 0x36))
+      digest-so =
+          let m = length text / B in
+          let size = S .wordBytes in
+          let front = take (m * B) text in
+          let whole : front ++ waits ≡ text = take-append-drop (m * B) text in
+          let sized : length front ≡ m * B = length-take-le (m * B) text (whole-part B sixty-four (length text)) in
+          let words : wordsOf size (m * 16) front ≡ wordsOf size (m * 16) text =
+          sym (words-front size (m * 16) front waits (rw (mul-assoc m 16 size) (omega (arith, sized))))
+          ∙ ap (wordsOf size (m * 16)) whole in
+          ap (λ t. blocksOf S (length last / 16) last (blocksOf S m t (keyed 0x36))) (sym words)
+          ∙ sym (last-blocks S proper m front waits (keyed 0x36) sized)
+          ∙ ap (λ t. let W = ending S B t in blocksOf S (length W / 16) W (keyed 0x36)) whole
+
+      pub tag-rule : ((i : ℕ) → Fits (getD last i 0)) → Rule (finishDraws M n (length text)) Tag (finish M s)
+      unfolding hmacOf
+      tag-rule u =
+          let h = holds in
+          alike
+          (λ ws at.
+          ap (λ t. finish M t ws at) (h .is)
+          ∙ made-finished M n (length text) (h .inner) (h .outer) waits made ws at)
+          (said
+          (finished-rule keeps (length text) waits waits-size (h .inner-good) proper some (h .outer-good) u)
+          refl
+          (λ t f. record { chain = f .chain; is = f .is; good = rw digest-so at (f .good) }))

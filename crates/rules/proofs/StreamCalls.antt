@@ -87,7 +87,7 @@ start-needs n key ws q h e =
     let some = within n count .0 in
     let size = eqb-true (length key) (16 * n) (holds _ _ (p .1 .0)) in
     needs (startDraws (sha1 32) n) q _ ws e (taken n count)
-    (start-rule (sha1-size n some) sha1-proper some (words-size (sha1 32) n some (sha1-size n some) 16 key size))
+    (start-rule (sha1-size n some) (sha1-proper 32) some (words-size (sha1 32) n some (sha1-size n some) 16 key size))
 
 fit-taken : (s : State) → isFit s ≡ true → first (test 6 (isFit s) ∷ []) ≡ 0
 unfolding first test
@@ -152,7 +152,7 @@ module _ (s : State) (ws : List ℕ) (q : Answer) (inner : length (map (λ (v : 
       let count = fits (s .n) (s .bytes) (s .finished) fit .0 in
       let some = within (s .n) count .0 in
       needs (finishDraws (sha1 32) (s .n) (s .bytes)) q _ ws e (fit-taken s fit)
-      (finish-sized (sha1 32) s some (sha1-size (s .n) some) refl (few count) whole sha1-proper)
+      (finish-sized (sha1 32) s some (sha1-size (s .n) some) refl (few count) whole (sha1-proper 32))
 
   -- ---- a feed: refused, with the state as it was given, or done
   module _ (piece : List ℕ) (number : ℕ) (e : feedWords (sha1 32) s (length piece) ≡ q)

@@ -18,15 +18,15 @@ use Rattle.rules.specs.Stream.{inUse, waiting, filled, state, start, ful
 use Rattle.rules.proofs.Rule.{give, bind, said, counted, alike}
 use Rattle.rules.proofs.Bytes.{length-words, words-front, words-split}
 use Rattle.rules.proofs.Goods.{Goods, goods-size}
-use Rattle.rules.proofs.Hashes.{Proper, blocks-append}
+use Rattle.rules.proofs.Hashes.{Proper}
 use Rattle.rules.proofs.MaskedHmac.{Keeps, publics-of, key-rule, text-rule, digest-rule}
 
 -- ---- arithmetic of blocks
 module _ (B : ℕ) (block : B ≡ 64) where
-  left-over : (l : ℕ) → l - l / B * B ≡ l % B
+  pub left-over : (l : ℕ) → l - l / B * B ≡ l % B
   left-over l = rw block (omega arith)
 
-  whole-part : (l : ℕ) → l / B * B ≤ l
+  pub whole-part : (l : ℕ) → l / B * B ≤ l
   whole-part l = rw block (omega arith)
 
   whole-and : (m l : ℕ) → (m * B + l) / B ≡ m + l / B
@@ -233,6 +233,10 @@ module _ (M : Masked) (n bytes : ℕ) (inner outer waits : List ℕ) where
     unfolding state
     made-fed piece ws at = feed-reads M s piece ws at ∙ rw (made-inner, made-outer, made-waits)
 
+    pub made-finished : (ws : List ℕ) (at : ℕ) → finish M s ws at ≡ finishedFrom M n bytes inner outer waits ws at
+    unfolding state
+    made-finished ws at = finish-reads M s ws at ∙ rw (made-inner, made-outer, made-waits)
+
 -- ---- nothing fed leaves a state as it is
 pub nothing : (M : Masked) (n bytes : ℕ) (inner outer waits ws : List ℕ) (at : ℕ) → blockBytes (M .standard) ≡ 64
     → length waits ≡ bytes % blockBytes (M .standard)
@@ -267,15 +271,22 @@ module _ (M : Masked) (n bytes : ℕ) (inner outer waits : List ℕ) (sixty-four
     whole : waits ++ (p ++ q) ≡ first ++ q
     whole = sym (append-assoc waits p q)
 
-    dropped : drop (many * wide) (first ++ q) ≡ rest ++ q
+    pub dropped : drop (many * wide) (first ++ q) ≡ rest ++ q
     dropped = drop-append-le (many * wide) first q (whole-part wide sixty-four (length first))
 
-    counted-so : length (first ++ q) / wide ≡ many + length (rest ++ q) / wide
+    pub counted-so : length (first ++ q) / wide ≡ many + length (rest ++ q) / wide
     counted-so =
         ap (λ l. l / wide)
         (length-append first q
         ∙ omega (arith, length-append rest q, length-drop (many * wide) first, whole-part wide sixty-four (length first)))
         ∙ whole-and wide sixty-four many (length (rest ++ q))
+
+    pub ends-so : (let more = length (rest ++ q) / wide in
+        drop ((many + more) * wide) (first ++ q) ≡ drop (more * wide) (rest ++ q))
+    ends-so =
+        let more = length (rest ++ q) / wide in
+        ap (λ t. drop t (first ++ q)) (add-mul many more wide) ∙ sym (drop-drop (more * wide) (many * wide) (first ++ q))
+        ∙ ap (drop (more * wide)) dropped
 
     pub joined : (ws : List ℕ) (at : ℕ)
         → fedFrom M n bytes inner outer waits (p ++ q) ws at
@@ -283,13 +294,10 @@ module _ (M : Masked) (n bytes : ℕ) (inner outer waits : List ℕ) (sixty-four
     joined ws at =
         let more = length (rest ++ q) / wide in
         let all : bytes + length (p ++ q) ≡ bytes + length p + length q = omega (arith, length-append p q) in
-        let ends : drop ((many + more) * wide) (first ++ q) ≡ drop (more * wide) (rest ++ q) =
-        ap (λ t. drop t (first ++ q)) (add-mul many more wide) ∙ sym (drop-drop (more * wide) (many * wide) (first ++ q))
-        ∙ ap (drop (more * wide)) dropped in
         rw (
           whole,
           counted-so,
-          ends,
+          ends-so,
           all,
           full-append M n many more (first ++ q) inner ws at,
           dropped,

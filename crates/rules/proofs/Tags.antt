@@ -13,7 +13,7 @@ use Rattle.rules.specs.Sha1.{openWords}
 use Rattle.rules.specs.Hmac.{Masked, splitKey, hmacTag}
 use Rattle.rules.proofs.Bytes.{bytes-are-words, length-bytes, length-words}
 use Rattle.rules.proofs.Goods.{goods-open}
-use Rattle.rules.proofs.Hashes.{Chained, Proper, key-bytes, ending-words, hmacOf, hmacOf-is}
+use Rattle.rules.proofs.Hashes.{Chains, Proper, key-bytes, ending-words, hmacOf, hmacOf-is}
 use Rattle.rules.proofs.MaskedHmac.{Keeps, hmac-rule, splits-rule}
 use Rattle.rules.proofs.Opens.{Masks, masks}
 
@@ -25,7 +25,7 @@ splitKey-opens H n key ws at h =
     rw (length-words (H .wordBytes) 16 (keyBlock H key)) at (goods-open (λ x X g. g) (splits-rule n vs h .makes ws at))
 
 -- the tag, from shares that open to the padded key
-module _ (M : Masked) (n : ℕ) (some : 0 < n) (proper : Proper (M .standard)) where
+module _ (M : Masked) (n : ℕ) (some : 0 < n) (proper : Proper (M .standard)) (chains : Chains (M .standard)) where
   abbrev H : Hash
   H = M .standard
 
@@ -41,7 +41,7 @@ module _ (M : Masked) (n : ℕ) (some : 0 < n) (proper : Proper (M .standard)) w
       rw shared (bytes-are-words (H .wordBytes) 16 (keyBlock H key) (key-bytes H proper key text short keys)) in
       let rule = hmac-rule keeps proper some text (ending-words H proper (blockBytes H) text texts) (masks k n 16 shares size small) in
       ap (allBytes (H .wordBytes)) (goods-open (λ x X g. (g .0, g .1)) (rule .makes ws at) ∙ ap (λ t. hmacOf H t text) shared)
-      ∙ hmacOf-is H proper key text short keys
+      ∙ hmacOf-is H proper key text short keys chains
 
 -- ---- SHA-1 is a proper hash
 length-rounds : (k m t : ℕ) (W s : List ℕ) → length s ≡ 5 → length (rounds k W m t s) ≡ 5
@@ -62,24 +62,23 @@ words-sums k (x ∷ h) [] i = pow-pos k
 words-sums k (x ∷ h) (y ∷ s) zero = plus-lt k x y
 words-sums k (x ∷ h) (y ∷ s) (suc i) = words-sums k h s i
 
-sha1-chain : (h B : List ℕ) → length h ≡ 5 → Chained (SHA1 32) (compress 32 h B)
+pub sha1-chains : Chains (SHA1 32)
 unfolding compress
-sha1-chain h B l =
+sha1-chains h B l =
     let s = rounds 32 (schedule 32 64 B) 80 0 h in
     (length-sums 32 h s (length-rounds 32 80 0 (schedule 32 64 B) h l ∙ sym l) ∙ l, words-sums 32 h s)
 
-sha1-padding : (l : ℕ) → length (padding (SHA1 32) l) ≡ 9 + (119 - l % 64) % 64
+sha1-padding : (k l : ℕ) → length (padding (SHA1 k) l) ≡ 9 + (119 - l % 64) % 64
 unfolding padding zeros
-sha1-padding l =
-    ap suc (length-append (replicate (zeros (SHA1 32) l) 0) (bytesOf 8 (l * 8)))
-    ∙ rw (length-replicate {A = ℕ} (zeros (SHA1 32) l) 0, length-bytes 8 (l * 8)) (omega arith)
+sha1-padding k l =
+    ap suc (length-append (replicate (zeros (SHA1 k) l) 0) (bytesOf 8 (l * 8)))
+    ∙ rw (length-replicate {A = ℕ} (zeros (SHA1 k) l) 0, length-bytes 8 (l * 8)) (omega arith)
 
-pub sha1-proper : Proper (SHA1 32)
-sha1-proper =
+pub sha1-proper : (k : ℕ) → Proper (SHA1 k)
+sha1-proper k =
     record {
       some = omega arith;
-      whole = λ l. omega (arith, sha1-padding l);
-      rest = omega (arith, sha1-padding 84);
+      whole = λ l. omega (arith, sha1-padding k l);
+      rest = omega (arith, sha1-padding k 84);
       short = omega arith;
-      makes = sha1-chain;
     }

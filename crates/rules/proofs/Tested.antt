@@ -217,7 +217,7 @@ module _ (n : ℕ) (came ws : List ℕ) (q : Answer) where
       let count = holds _ _ (p .0) in
       let size = eqb-true (length key) (16 * n) (holds _ _ (p .1 .0)) in
       needs (hmacDraws (sha1 32) n (length text)) q _ ws e (taken-text n _ count (holds _ _ (p .1 .1 .1 .0)))
-      (hmacTag-sized (sha1 32) n (within n count .0) (sha1-size n (within n count .0)) sha1-proper key text size)
+      (hmacTag-sized (sha1 32) n (within n count .0) (sha1-size n (within n count .0)) (sha1-proper 32) key text size)
 
 -- refresh works on a copy, and splitting by the length of its output
 pub refresh-copied : (x y ws : List ℕ) (r : List ℕ × ℕ) → y ≡ x → refresh y ws 0 ≡ r → refresh x ws 0 ≡ r

@@ -70,7 +70,7 @@ full-words text h =
     let size : length block ≡ 64 = length-take-le 64 text h in
     let W = wordsOf 4 16 block in
     ap (λ t. take 16 (ending (SHA1 32) 0 t)) (sym (append-nil block))
-    ∙ ap (take 16) (ending-front (SHA1 32) sha1-proper 1 0 block [] size)
+    ∙ ap (take 16) (ending-front (SHA1 32) (sha1-proper 32) 1 0 block [] size)
     ∙ take-at W _ 16 (length-words 4 16 block)
     ∙ sym (words-front 4 16 block (drop 64 text) (omega (arith, size)))
     ∙ ap (wordsOf 4 16) (take-append-drop 64 text)
@@ -199,4 +199,4 @@ unfolding finish used
 finish-made s ws tail tag at p q inner last whole waits text digest opened =
     let waited : tail ≡ take (s .bytes % 64) (s .tail) = waits ∙ rw (sub-zero (s .bytes % 64)) in
     let m = s .bytes / 64 + 1 in
-    rw (← waited, ending-blocks (SHA1 32) sha1-proper m (m * 64) refl tail, text, digest, opened)
+    rw (← waited, ending-blocks (SHA1 32) (sha1-proper 32) m (m * 64) refl tail, text, digest, opened)
