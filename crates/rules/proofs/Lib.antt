@@ -24,3 +24,4 @@ pub mod Outcomes
 pub mod AtCalls
 pub mod Tested
 pub mod StreamCalls
+pub mod AtStreams

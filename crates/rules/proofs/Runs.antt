@@ -2,22 +2,23 @@
 use Prim.Native.Nat.{ℕ, zero, suc, _+_, _-_, _*_, _/_, _%_, _≤_, _<_}
 use mathlib.Core.Path.{_≡_, refl, sym, ap, ap₂, _∙_, subst}
 use mathlib.Core.List.{List, [], _∷_, _++_, map, append-assoc, append-nil}
-use native.Mathlib.Nat.{zero-add, add-mul, mul-assoc}
+use native.Mathlib.Nat.{zero-add, add-zero, zero-mul, add-mul, mul-assoc}
 use native.Mathlib.Omega.{arith}
 use lib.Bits.{bitXor}
 use lib.ListN.{length, getD, take, drop, length-append, length-drop, take-append-drop, List·getD-append}
-use lib.Seq.{getD-append-add, getD-take, length-take-le, drop-nil}
+use lib.Seq.{getD-append-add, getD-take, length-take-le, take-at, drop-at, drop-nil}
 use borrow.Author.Tests.{leb-true}
 use Rattle.rules.specs.declared.State.{State}
-use Rattle.rules.specs.Supply.{Rule, Agree}
+use Rattle.rules.specs.Supply.{Rule, Agree, Words}
 use Rattle.rules.specs.Numbers.{first}
 use Rattle.rules.specs.Hash.{Hash, blockBytes, chainWords, wordsOf, ending, blocks as blocksOf}
 use Rattle.rules.specs.Hmac.{Masked, everyByte, tagOf}
 use Rattle.rules.specs.Counts.{feedDraws, finishDraws}
 use Rattle.rules.specs.Calls.{call}
-use Rattle.rules.specs.Stream.{Feeds, state, fullBlocks, feed, finish, feedCall, message, after, drawn, Accepted}
-use Rattle.rules.proofs.Rule.{said, alike}
-use Rattle.rules.proofs.Bytes.{length-words, words-front, words-split}
+use Rattle.rules.specs.Stream.{Feeds, state, fullBlocks, feed, finish, feedCall, finishCall, message, after, drawn, Accepted}
+use Rattle.rules.proofs.Rule.{said, counted, alike}
+use Rattle.rules.proofs.Bytes.{length-words, words-join, words-front, words-split}
+use Rattle.rules.proofs.Conversion.{words-take, words-drop}
 use Rattle.rules.proofs.Hashes.{Proper, blocks-joined, last-blocks, hmacOf}
 use Rattle.rules.proofs.Goods.{Goods, goods-size}
 use Rattle.rules.proofs.MaskedHmac.{Keeps}
@@ -38,6 +39,29 @@ module _ (d : ℕ) (ws later : List ℕ) (enough : d ≤ length ws) where
   tails e i h =
       ap (λ t. getD (take d ws ++ later) (t + i) 0) (sym drawn-so) ∙ getD-append-add (take d ws) later i 0
       ∙ ap (λ t. getD later t 0) (sym (zero-add i))
+
+-- ---- an accepted feed, and an accepted finish
+module _ (M : Masked) (s : State) (p ws : List ℕ) (ok : feedCall M s p ws .number ≡ 0) where
+  pub fed-state : feedCall M s p ws .state ≡ feed M s p ws 0 .0
+  unfolding feedCall call
+  fed-state = rw ok
+
+  pub fed-drawn : feedCall M s p ws .drawn ≡ feed M s p ws 0 .1
+  unfolding feedCall call
+  fed-drawn = rw ok
+
+  pub fed-enough : feed M s p ws 0 .1 ≤ length ws
+  unfolding feedCall call
+  fed-enough = leb-true _ _ (holds _ _ (passed _ ok .1 .1 .0))
+
+module _ (M : Masked) (s : State) (came ws : List ℕ) (ok : finishCall M s came ws .0 .number ≡ 0) where
+  pub finished-tag : finishCall M s came ws .1 ≡ finish M s ws 0 .0
+  unfolding finishCall call
+  finished-tag = rw ok
+
+  pub finished-drawn : finishCall M s came ws .0 .drawn ≡ finish M s ws 0 .1
+  unfolding finishCall call
+  finished-drawn = rw ok
 
 -- ---- a state as start and feed make it
 module _ (M : Masked) (n : ℕ) (some : 0 < n) (keeps : Keeps M n (λ v. Unit {0}) (Sized n))
@@ -112,20 +136,6 @@ module _ (M : Masked) (n : ℕ) (some : 0 < n) (keeps : Keeps M n (λ v. Unit {0
         (made-fed M n (clean .bytes) (clean .inner) (clean .outer) (clean .waits) (clean .made) [] ws at
         ∙ nothing M n (clean .bytes) (clean .inner) (clean .outer) (clean .waits) ws at sixty-four (clean .made .waits-size))
 
-  -- ---- an accepted feed
-  module _ (s : State) (p ws : List ℕ) (ok : feedCall M s p ws .number ≡ 0) where
-    pub fed-state : feedCall M s p ws .state ≡ feed M s p ws 0 .0
-    unfolding feedCall call
-    fed-state = rw ok
-
-    pub fed-drawn : feedCall M s p ws .drawn ≡ feed M s p ws 0 .1
-    unfolding feedCall call
-    fed-drawn = rw ok
-
-    pub fed-enough : feed M s p ws 0 .1 ≤ length ws
-    unfolding feedCall call
-    fed-enough = leb-true _ _ (holds _ _ (passed _ ok .1 .1 .0))
-
   -- ---- a run is one piece: the message, fed with the words drawn
   pub run-is : (fs : Feeds) (s : State) → Clean s → Accepted M s fs → after M s fs ≡ feed M s (message fs) (drawn M s fs) 0 .0
   unfolding after message drawn Accepted
@@ -137,15 +147,15 @@ module _ (M : Masked) (n : ℕ) (some : 0 < n) (keeps : Keeps M n (λ v. Unit {0
       let d = feedDraws M n (clean .bytes) (length p) in
       let place : feed M s p ws 0 .1 ≡ d = rule .place ws 0 ∙ zero-add d in
       let t = feedCall M s p ws .state in
-      let next : Clean t = subst Clean (sym (fed-state s p ws (ok .0))) (rule .makes ws 0) in
+      let next : Clean t = subst Clean (sym (fed-state M s p ws (ok .0))) (rule .makes ws 0) in
       let later = drawn M t fs in
       let A = take d ws ++ later in
       let r = feed M s p A 0 in
-      let enough : d ≤ length ws = rw place at (fed-enough s p ws (ok .0)) in
-      let same : r .0 ≡ t = rule .same A ws 0 0 (heads d ws later enough) ∙ sym (fed-state s p ws (ok .0)) in
+      let enough : d ≤ length ws = rw place at (fed-enough M s p ws (ok .0)) in
+      let same : r .0 ≡ t = rule .same A ws 0 0 (heads d ws later enough) ∙ sym (fed-state M s p ws (ok .0)) in
       let end : r .1 ≡ d = rule .place A 0 ∙ zero-add d in
       let m = message fs in
-      rw (fed-drawn s p ws (ok .0), place)
+      rw (fed-drawn M s p ws (ok .0), place)
       (run-is fs t next (ok .1)
       ∙ sym (piece-rule t next m .same A later d 0 (tails d ws later enough _))
       ∙ ap₂ (λ u i. feed M u m A i .0) (sym same) (sym end)
@@ -156,6 +166,72 @@ module _ (M : Masked) (n : ℕ) (some : 0 < n) (keeps : Keeps M n (λ v. Unit {0
       → message fs ≡ message gs → drawn M s fs ≡ drawn M s gs → after M s fs ≡ after M s gs
   any-cutting s clean fs gs f g bytes words =
       run-is fs s clean f ∙ ap₂ (λ m ws. feed M s m ws 0 .0) bytes words ∙ sym (run-is gs s clean g)
+
+  -- ---- how many words a run draws, and how many bytes it leaves
+  grown : (s : State) (p ws : List ℕ) (at : ℕ) → feed M s p ws at .0 .bytes ≡ s .bytes + length p
+  unfolding feed state
+  grown s p ws at = refl
+
+  clean-bytes : (s : State) (clean : Clean s) → clean .bytes ≡ s .bytes
+  unfolding state
+  clean-bytes s clean = sym (ap (λ (t : State). t .bytes) (clean .is))
+
+  parts : (b p l : ℕ) → feedDraws M n b p + feedDraws M n (b + p) l ≡ feedDraws M n b (p + l)
+  parts b p l =
+      let e : (b % 64 + p) / 64 + ((b + p) % 64 + l) / 64 ≡ (b % 64 + (p + l)) / 64 = omega arith in
+      rw sixty-four (sym (add-mul ((b % 64 + p) / 64) (((b + p) % 64 + l) / 64) (M .draws n)) ∙ ap (λ t. t * M .draws n) e)
+
+  pub run-counts : (fs : Feeds) (s : State) → Clean s → Accepted M s fs
+      → (length (drawn M s fs) ≡ feedDraws M n (s .bytes) (length (message fs)))
+      × (after M s fs .bytes ≡ s .bytes + length (message fs))
+  unfolding after message drawn Accepted
+  run-counts [] s clean ok = (none-drawn (s .bytes), sym (add-zero (s .bytes)))
+    where
+      none-drawn : (b : ℕ) → 0 ≡ feedDraws M n b 0
+      none-drawn b =
+          let e : (b % 64 + 0) / 64 ≡ 0 = omega arith in
+          rw (sixty-four, e) (sym (zero-mul (M .draws n)))
+  run-counts (f ∷ fs) s clean ok =
+      let p = f .0 in
+      let ws = f .1 in
+      let rule = piece-rule s clean p in
+      let d = feedDraws M n (s .bytes) (length p) in
+      let t = feedCall M s p ws .state in
+      let is = fed-state M s p ws (ok .0) in
+      let next : Clean t = subst Clean (sym is) (rule .makes ws 0) in
+      let place : feed M s p ws 0 .1 ≡ d =
+      rule .place ws 0 ∙ zero-add _ ∙ ap (λ b. feedDraws M n b (length p)) (clean-bytes s clean) in
+      let size : length (take (feedCall M s p ws .drawn) ws) ≡ d =
+      rw (fed-drawn M s p ws (ok .0)) (length-take-le _ ws (fed-enough M s p ws (ok .0)) ∙ place) in
+      let more = run-counts fs t next (ok .1) in
+      let bytes : t .bytes ≡ s .bytes + length p = ap (λ (u : State). u .bytes) is ∙ grown s p ws 0 in
+      let all = length-append p (message fs) in
+      (length-append (take (feedCall M s p ws .drawn) ws) (drawn M t fs)
+      ∙ ap₂ (λ a b. a + b) size (more .0 ∙ ap (λ b. feedDraws M n b (length (message fs))) bytes)
+      ∙ parts (s .bytes) (length p) (length (message fs)) ∙ ap (feedDraws M n (s .bytes)) (sym all),
+      more .1 ∙ omega (arith, bytes, all))
+
+  pub run-clean : (fs : Feeds) (s : State) → Clean s → Accepted M s fs → Clean (after M s fs)
+  unfolding after Accepted
+  run-clean [] s clean ok = clean
+  run-clean (f ∷ fs) s clean ok =
+      let next = piece-rule s clean (f .0) .makes (f .1) 0 in
+      run-clean fs _ (subst Clean (sym (fed-state M s (f .0) (f .1) (ok .0))) next) (ok .1)
+
+  pub finish-counts : Proper (M .standard) → (s : State) → Clean s → Rule (finishDraws M n (s .bytes)) (λ t. Unit {0}) (finish M s)
+  finish-counts proper s clean =
+      let sized = words-size M n some keeps (chainWords H) in
+      let m = clean .made in
+      counted
+      (alike
+      (λ ws at.
+      ap (λ t. finish M t ws at) (clean .is)
+      ∙ made-finished M n (clean .bytes) (clean .inner) (clean .outer) (clean .waits) m ws at)
+      (said
+      (finished-rule keeps (clean .bytes) (clean .waits) (m .waits-size) (sized (clean .inner) (m .inner-size)) proper some
+      (sized (clean .outer) (m .outer-size)) (λ i. tt))
+      refl (λ t f. tt)))
+      (ap (finishDraws M n) (clean-bytes s clean))
 
 -- ---- what a state holds of a message, under a key in words
 module _ {M : Masked} {n : ℕ} {Fits : ℕ → Type 0} {Good : List ℕ → ℕ → Type 0} (keeps : Keeps M n Fits Good)
@@ -296,3 +372,20 @@ module _ {M : Masked} {n : ℕ} {Fits : ℕ → Type 0} {Good : List ℕ → ℕ
           (finished-rule keeps (length text) waits waits-size (h .inner-good) proper some (h .outer-good) u)
           refl
           (λ t f. record { chain = f .chain; is = f .is; good = rw digest-so at (f .good) }))
+
+  -- ---- over a run, where the bytes of a message may enter
+  module _ (reads : (t : List ℕ) → Words 8 t → Readable keeps t) where
+    pub holds-run : (fs : Feeds) (text : List ℕ) (s : State) → Holds text s → Words 8 text → Words 8 (message fs)
+        → Accepted M s fs → Holds (text ++ message fs) (after M s fs)
+    unfolding after message Accepted
+    holds-run [] text s holds bytes more ok = subst (λ t. Holds t s) (sym (append-nil text)) holds
+    holds-run (f ∷ fs) text s holds bytes more ok =
+        let p = f .0 in
+        let m = message fs in
+        let one : Words 8 p = rw (take-at p m (length p) refl) at (words-take 8 (length p) (p ++ m) more) in
+        let later : Words 8 m = rw (drop-at p m (length p) refl) at (words-drop 8 (length p) (p ++ m) more) in
+        let rest = words-drop 8 (length text / B * B) text bytes in
+        let readable = reads _ (words-join 8 (drop (length text / B * B) text) p rest one) in
+        let next = subst (Holds (text ++ p)) (sym (fed-state M s p (f .1) (ok .0))) (holds-more text s holds p readable (f .1) 0) in
+        rw (append-assoc text p m) at
+        (holds-run fs (text ++ p) _ next (words-join 8 text p bytes one) later (ok .1))
