@@ -30,8 +30,9 @@
  * By value: a chain or a state that is passed or handed back is copied by the caller's compiler, in registers as wide
  * as it likes, so that all shares of a word may stand in one, and copies stay in the caller's frame. No call can
  * prevent that. A program that makes such a call in a function of its own, and calls flamivorse_clear_stack when that
- * function has returned, clears these copies. Where the registers matter, use flamivorse_hmac_sha1: its chains never
- * leave the archive, which copies one share at a time.
+ * function has returned, clears the copies on the stack; what a C library's memcpy left in registers wider than 16
+ * bytes stays (examples/stream.c copies without it). Where registers matter, use flamivorse_hmac_sha1: its chains
+ * never leave the archive, which copies one share at a time.
  */
 #ifndef FLAMIVORSE_H
 #define FLAMIVORSE_H
