@@ -3,6 +3,7 @@
 
 use crate::answer;
 use crate::{Drawn, Refusal};
+use std::arch::{asm, is_x86_feature_detected};
 use std::fmt;
 use zeroize::Zeroize;
 
@@ -136,7 +137,29 @@ pub(crate) fn cleared<T>(calls: impl FnOnce() -> T) -> T {
     let answer = in_own_frame(calls);
     // SAFETY: it writes below this frame alone, where nothing is kept any more.
     unsafe { flamivorse_clear_stack() };
+    clear_wide_registers();
     answer
+}
+
+/// Clears the vector registers that the archive does not use. A chain or a state that goes by value
+/// is copied by the C library, through the widest that the machine has.
+fn clear_wide_registers() {
+    if is_x86_feature_detected!("avx512f") {
+        // SAFETY: the machine has these registers, and nothing is kept in them.
+        unsafe {
+            asm!(
+                ".irp number, 16, 17, 18, 19, 20, 21, 22, 23, 24, 25, 26, 27, 28, 29, 30, 31",
+                "vpxord zmm\\number, zmm\\number, zmm\\number",
+                ".endr",
+                clobber_abi("sysv64"),
+                options(nomem, nostack)
+            );
+        }
+    }
+    if is_x86_feature_detected!("avx") {
+        // SAFETY: as above; these are all the others, and the wide parts of those that the archive uses.
+        unsafe { asm!("vzeroall", clobber_abi("sysv64"), options(nomem, nostack)) };
+    }
 }
 
 #[inline(never)]

@@ -1,5 +1,5 @@
-//! What is left on the stack: after the archive's own call shares are found there, after a safe call
-//! none are. And what is left of a state that was dropped.
+//! What is left on the stack and in registers: after the archive's own call shares are found there,
+//! after a safe call none are. And what is left of a state that was dropped.
 
 use super::*;
 use std::arch::asm;
@@ -8,22 +8,84 @@ use std::mem::MaybeUninit;
 /// How far below the caller is looked, in words.
 const WORDS: usize = 4096;
 
-/// What stands on the stack below this frame.
-#[inline(always)]
-fn below(found: &mut [u32; WORDS]) {
-    // SAFETY: a thread's stack is far longer, and reading it changes nothing.
-    unsafe {
-        asm!(
-            "lea rsi, [rsp - 4 * {words}]",
-            "rep movsd",
-            words = const WORDS,
-            out("rsi") _,
-            inout("rcx") WORDS => _,
-            inout("rdi") found.as_mut_ptr() => _,
-            options(nostack)
-        );
+/// The words of all vector registers, of the widest kind there is.
+const WIDE: usize = 32 * 16;
+
+/// What is found.
+struct Found {
+    stack: Box<[u32; WORDS]>,
+    registers: Box<[u32; WIDE]>,
+    /// Whether the machine has 32 registers of 64 bytes, or else 16 of 32 bytes.
+    widest: bool,
+    wide: bool,
+}
+
+impl Found {
+    fn nothing() -> Found {
+        Found {
+            stack: Box::new([0; WORDS]),
+            registers: Box::new([0; WIDE]),
+            widest: is_x86_feature_detected!("avx512f"),
+            wide: is_x86_feature_detected!("avx"),
+        }
+    }
+
+    /// Looks at the registers, and at the stack below this frame.
+    #[inline(always)]
+    fn look(&mut self) {
+        // SAFETY: only registers that the machine has are read. A thread's stack is far longer, and
+        // reading it changes nothing.
+        unsafe {
+            if self.widest {
+                asm!(
+                    ".irp number, 0, 1, 2, 3, 4, 5, 6, 7, 8, 9, 10, 11, 12, 13, 14, 15",
+                    "vmovdqu32 [rdi + 64 * \\number], zmm\\number",
+                    ".endr",
+                    ".irp number, 16, 17, 18, 19, 20, 21, 22, 23, 24, 25, 26, 27, 28, 29, 30, 31",
+                    "vmovdqu32 [rdi + 64 * \\number], zmm\\number",
+                    ".endr",
+                    in("rdi") self.registers.as_mut_ptr(),
+                    options(nostack)
+                );
+            } else if self.wide {
+                asm!(
+                    ".irp number, 0, 1, 2, 3, 4, 5, 6, 7, 8, 9, 10, 11, 12, 13, 14, 15",
+                    "vmovdqu [rdi + 64 * \\number], ymm\\number",
+                    ".endr",
+                    in("rdi") self.registers.as_mut_ptr(),
+                    options(nostack)
+                );
+            }
+            asm!(
+                "lea rsi, [rsp - 4 * {words}]",
+                "rep movsd",
+                words = const WORDS,
+                out("rsi") _,
+                inout("rcx") WORDS => _,
+                inout("rdi") self.stack.as_mut_ptr() => _,
+                options(nostack)
+            );
+        }
+    }
+
+    /// How many of these words are found.
+    fn count(&self, words: &[u32]) -> usize {
+        let found = |word: &&u32| self.stack.contains(word) || self.registers.contains(word);
+        words.iter().filter(found).count()
+    }
+
+    /// How many of the words that a state's chains use are found.
+    fn of_state(&self, state: &State) -> usize {
+        let used = 5 * state.n;
+        self.count(&state.inner.shares[..used]) + self.count(&state.outer.shares[..used])
     }
 }
+
+/// The seeds of the words that a chain, a block or key, an outer chain and a supply have.
+const CHAIN: u32 = 1;
+const BLOCK: u32 = 1000;
+const OUTER: u32 = 2000;
+const SUPPLY: u32 = 3000;
 
 /// Words that stand nowhere by chance.
 fn fresh(count: usize, seed: u32) -> Vec<u32> {
@@ -31,33 +93,26 @@ fn fresh(count: usize, seed: u32) -> Vec<u32> {
     words.take(count).collect()
 }
 
-/// What a compression is given, and which words of it are found after it.
+/// What a compression is given, and what is found after it. The chain is in a box, so that the test
+/// itself leaves nothing of it on the stack.
 struct Compression {
-    n: usize,
-    chain: Chain,
+    chain: Box<Chain>,
     block: Vec<u32>,
     words: Vec<u32>,
-    found: Box<[u32; WORDS]>,
+    found: Found,
 }
 
 impl Compression {
     fn new(n: usize) -> Compression {
-        let mut chain = Chain { shares: [0; 40] };
-        chain.shares[..5 * n].copy_from_slice(&fresh(5 * n, 1));
+        let mut chain = Box::new(Chain { shares: [0; 40] });
+        chain.shares[..5 * n].copy_from_slice(&fresh(5 * n, CHAIN));
         let words = crate::sha1_compress_words(n).expect("a right count");
         Compression {
-            n,
             chain,
-            block: fresh(16 * n, 1000),
-            words: fresh(words.words(), 2000),
-            found: Box::new([0; WORDS]),
+            block: fresh(16 * n, BLOCK),
+            words: fresh(words.words(), SUPPLY),
+            found: Found::nothing(),
         }
-    }
-
-    /// How many words of the block are found.
-    fn left(&self) -> usize {
-        let words = self.block.iter();
-        words.filter(|word| self.found.contains(word)).count()
     }
 }
 
@@ -66,7 +121,7 @@ fn shares_are_found_after_the_call_of_the_archive() {
     for n in [1, 2, 4, 8] {
         let mut call = Compression::new(n);
         let (block, words) = (&call.block, &call.words);
-        let chain = call.chain.clone();
+        let chain = Chain::clone(&call.chain);
         // SAFETY: both are slices of Rust's, and the chain goes by value.
         let answer = unsafe {
             flamivorse_sha1_compress(
@@ -78,9 +133,9 @@ fn shares_are_found_after_the_call_of_the_archive() {
                 words.len(),
             )
         };
-        below(&mut call.found);
+        call.found.look();
         assert_eq!(answer.number, 0);
-        assert!(call.left() > 0);
+        assert!(call.found.count(&call.block) > 0);
     }
 }
 
@@ -88,41 +143,35 @@ fn shares_are_found_after_the_call_of_the_archive() {
 fn no_shares_are_found_after_a_safe_call() {
     for n in [1, 2, 4, 8] {
         let mut call = Compression::new(n);
-        let done = crate::sha1_compress(call.n, &mut call.chain, &call.block, &call.words);
-        below(&mut call.found);
+        let done = crate::sha1_compress(n, &mut call.chain, &call.block, &call.words);
+        call.found.look();
         assert!(done.is_ok());
-        assert_eq!(call.left(), 0);
+        assert_eq!(call.found.count(&call.block), 0);
+        assert_eq!(call.found.count(&fresh(5 * n, CHAIN)), 0);
+        assert_eq!(call.found.count(&call.chain.shares[..5 * n]), 0);
     }
 }
 
-/// A state whose chains stand nowhere by chance, its block one byte short of full, and which words of
-/// the chains are found.
+/// A state whose chains stand nowhere by chance, its block one byte short of full, and what is found
+/// after a call on it. It is in a box as well.
 struct Streaming {
-    state: State,
+    state: Box<State>,
     words: Vec<u32>,
-    found: Box<[u32; WORDS]>,
+    found: Found,
 }
 
 impl Streaming {
     fn new(n: usize) -> Streaming {
-        let mut state = State::default();
+        let mut state: Box<State> = Box::default();
         (state.n, state.bytes) = (n, 63);
-        state.inner.shares[..5 * n].copy_from_slice(&fresh(5 * n, 1));
-        state.outer.shares[..5 * n].copy_from_slice(&fresh(5 * n, 1000));
+        state.inner.shares[..5 * n].copy_from_slice(&fresh(5 * n, CHAIN));
+        state.outer.shares[..5 * n].copy_from_slice(&fresh(5 * n, OUTER));
         let words = crate::hmac_sha1_finish_words(&state).expect("a fit state");
         Streaming {
             state,
-            words: fresh(words.words(), 2000),
-            found: Box::new([0; WORDS]),
+            words: fresh(words.words(), SUPPLY),
+            found: Found::nothing(),
         }
-    }
-
-    /// How many words of these chains are found.
-    fn left(&self, chains: &[&Chain]) -> usize {
-        let shares = chains
-            .iter()
-            .flat_map(|chain| &chain.shares[..5 * self.state.n]);
-        shares.filter(|share| self.found.contains(share)).count()
     }
 }
 
@@ -130,14 +179,14 @@ impl Streaming {
 fn chains_are_found_after_a_feed_of_the_archive() {
     for n in [1, 2, 4, 8] {
         let mut call = Streaming::new(n);
-        let (given, words) = (call.state.clone(), &call.words);
+        let (given, words) = (State::clone(&call.state), &call.words);
         // SAFETY: both are slices of Rust's, and the state goes by value.
         let answer = unsafe {
             flamivorse_hmac_sha1_feed(given, [0].as_ptr(), 1, words.as_ptr(), words.len())
         };
-        below(&mut call.found);
+        call.found.look();
         assert_eq!(answer.number, 0);
-        assert!(call.left(&[&call.state.inner, &answer.state.inner]) > 0);
+        assert!(call.found.of_state(&answer.state) > 0);
     }
 }
 
@@ -145,17 +194,16 @@ fn chains_are_found_after_a_feed_of_the_archive() {
 fn no_chains_are_found_after_a_safe_call_on_a_state() {
     for n in [1, 2, 4, 8] {
         let mut call = Streaming::new(n);
-        let before = call.state.clone();
         let fed = crate::hmac_sha1_feed(&mut call.state, &[0], &call.words);
-        below(&mut call.found);
+        call.found.look();
         assert!(fed.is_ok());
-        let chains = [&before.inner, &before.outer, &call.state.inner];
-        assert_eq!(call.left(&chains), 0);
+        assert_eq!(call.found.count(&fresh(5 * n, CHAIN)), 0);
+        assert_eq!(call.found.of_state(&call.state), 0);
 
         let finished = crate::hmac_sha1_finish(&mut call.state, &mut [0; 20], &call.words);
-        below(&mut call.found);
+        call.found.look();
         assert!(finished.is_ok());
-        assert_eq!(call.left(&[&call.state.inner, &call.state.outer]), 0);
+        assert_eq!(call.found.of_state(&call.state), 0);
     }
 }
 
@@ -163,10 +211,11 @@ fn no_chains_are_found_after_a_safe_call_on_a_state() {
 fn no_chains_are_found_after_a_start() {
     for n in [1, 2, 4, 8] {
         let mut call = Streaming::new(n);
-        let started = crate::hmac_sha1_start(n, &fresh(16 * n, 1), &mut call.state, &call.words);
-        below(&mut call.found);
+        let started =
+            crate::hmac_sha1_start(n, &fresh(16 * n, BLOCK), &mut call.state, &call.words);
+        call.found.look();
         assert!(started.is_ok());
-        assert_eq!(call.left(&[&call.state.inner, &call.state.outer]), 0);
+        assert_eq!(call.found.of_state(&call.state), 0);
     }
 }
 
