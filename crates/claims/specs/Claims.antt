@@ -2,7 +2,7 @@
 -- outcome is described, `Given`, `Settles`, `Follows`, `Makes`, stands in crates/rules/specs/Outcome.antt. The hypothesis
 -- `Words k x`, every entry of x is below 2^k, is true of all that the code can be lent: words (k = 32), bytes (k = 8).
 use Prim.Native.Nat.{ℕ, _+_, _-_, _*_, _/_, _%_, _^_, _≤_, _<_}
-use mathlib.Core.Path.{_≡_, refl, ap, _∙_}
+use mathlib.Core.Path.{_≡_, refl, sym, ap, _∙_}
 use mathlib.Core.List.{List, [], _∷_, _++_}
 use lib.Bits.{bitXor, bitAnd, xor-lt}
 use lib.Dec.{lit<, lit≤}
@@ -12,6 +12,8 @@ use Rattle.words.proofs.Words.{plus-minus}
 use Rattle.rules.specs.declared.Answer.{Answer}
 use Rattle.rules.specs.declared.Chain.{Chain}
 use Rattle.rules.specs.declared.Compressed.{Compressed}
+use Rattle.rules.specs.declared.State.{State}
+use Rattle.rules.specs.declared.Streamed.{Streamed}
 use Rattle.rules.specs.Supply.{Shares, Words, split, opened, total}
 use Rattle.rules.specs.Numbers.{test, first}
 use Rattle.rules.specs.Goubin.{b2aRecord, a2bRecord}
@@ -23,15 +25,19 @@ use Rattle.rules.specs.Hash.{hmac}
 use Rattle.rules.specs.Standard.{SHA1, ROTL, complement, Ch, Parity, Maj, f, schedule, round, rounds, sums, compress}
 use Rattle.rules.specs.Sha1.{openWords, used, compress as compressShares}
 use Rattle.rules.specs.Hmac.{splitKey, hmacTag}
-use Rattle.rules.specs.Counts.{addDraws, toBoolDraws, sha1}
+use Rattle.rules.specs.Counts.{addDraws, toBoolDraws, compressDraws, sha1}
 use Rattle.rules.specs.Calls.{call, b2aTwo, a2bTwo, b2aRecordCall, a2bRecordCall, splitCall, openXorCall, openSumCall}
 use Rattle.rules.specs.Calls.{refreshCall, expandCall, andCall, addCall, a2bCall, b2aCall, splitKeyCall, compressCall, hmacCall}
-use Rattle.rules.specs.Outcome.{Allowed, None, Given, Settles, Follows, Makes}
+use Rattle.rules.specs.Stream.{ReadAlike, state, start, feed, finish, startCall, feedCall, finishCall, closed}
+use Rattle.rules.specs.Stream.{Feeds, message, after, drawn, Accepted}
+use Rattle.rules.specs.Outcome.{Allowed, Fit, Whole, None, Asks, Done, Given, Settles, Follows, Makes}
 use Rattle.rules.proofs.Outcomes.{untested, says-eq, says-le, says-two, exactly, follows, makes, makes-as}
-use Rattle.rules.proofs.Outcomes.{open-settles, record-settles, record-independent}
+use Rattle.rules.proofs.Outcomes.{only, done-only, open-settles, record-settles, record-independent}
 use Rattle.rules.proofs.AtCalls.{some, add-count, expand-law, and-law, add-law, toBool-law, toArith-law, toArith-sums}
 use Rattle.rules.proofs.AtCalls.{there-back, back-there, splitKey-law, hmacTag-law, tags, xor-off}
 use Rattle.rules.proofs.AtCalls.{compress-outcome, compress-drawn, compress-past, compress-opens-to}
+use Rattle.rules.proofs.AtStreams.{start-outcome, start-count, start-past, feed-outcome, feed-count, feed-past}
+use Rattle.rules.proofs.AtStreams.{finish-outcome, finish-count, finish-past, sha1-cuts, sha1-words, streamed-tag, one-call-tag}
 use Rattle.rules.proofs.Openings.{opened-lt}
 use Rattle.rules.proofs.Pairs.{refresh-rule}
 use Rattle.rules.proofs.Addition.{add-rule, split-rule}
@@ -97,23 +103,23 @@ calls-follow n =
 
 -- An opening gives 0, 1 or 2: the XOR of the shares, or their sum modulo 2^32; refused, the word 0.
 pub open-xor-settles : (n : ℕ) (x : List ℕ)
-    → (let o = openXorCall n x in Settles (Allowed n) (length x ≡ n) None None None (o .number) (opened x) 0 (o .word))
+    → (let o = openXorCall n x in Settles (Given (Allowed n) (length x ≡ n) None None None) (o .number) (opened x) 0 (o .word))
 open-xor-settles n x = open-settles n x (opened x)
 
 pub open-sum-settles : (n : ℕ) (a : List ℕ)
     → (let o = openSumCall 32 n a in
-    Settles (Allowed n) (length a ≡ n) None None None (o .number) (total a % 2 ^ 32) 0 (o .word))
+    Settles (Given (Allowed n) (length a ≡ n) None None None) (o .number) (total a % 2 ^ 32) 0 (o .word))
 open-sum-settles n a = open-settles n a (total a % 2 ^ 32)
 
 -- A recording form gives 0 or 3: a record of exactly 7 or 165 entries has the steps, any other stays as it came.
 pub b2a-record-settles : (x′ r G : ℕ) (came : List ℕ)
     → (let o = b2aRecordCall 32 x′ r G came in
-    Settles None None (length came ≡ 7) None None (o .0) (b2aRecord 32 x′ r G) came (o .1))
+    Settles (Given None None (length came ≡ 7) None None) (o .0) (b2aRecord 32 x′ r G) came (o .1))
 b2a-record-settles x′ r G came = record-settles 7 (b2aRecord 32 x′ r G) came
 
 pub a2b-record-settles : (A r G : ℕ) (came : List ℕ)
     → (let o = a2bRecordCall 32 A r G came in
-    Settles None None (length came ≡ 165) None None (o .0) (a2bRecord 32 A r G) came (o .1))
+    Settles (Given None None (length came ≡ 165) None None) (o .0) (a2bRecord 32 A r G) came (o .1))
 a2b-record-settles A r G came = record-settles 165 (a2bRecord 32 A r G) came
 
 -- The records have 7 and 5k + 5 entries, at every width.
@@ -128,7 +134,7 @@ module _ (n : ℕ) (chain : Chain) (forty : length (chain .shares) ≡ 40) (bloc
   o = compressCall 32 n chain block ws
 
   pub compress-settles : (let made = compressShares 32 (add 32) n (used n (chain .shares)) block ws 0 in
-      Settles {A = Chain × ℕ} (Allowed n) (length block ≡ 16 * n) None None (5220 * (n * (n - 1)) ≤ length ws)
+      Settles {A = Chain × ℕ} (Given (Allowed n) (length block ≡ 16 * n) None None (5220 * (n * (n - 1)) ≤ length ws))
       (o .number) (record { shares = made .0 ++ replicate (40 - 5 * n) 0 }, made .1) (chain, 0) (o .chain, o .drawn))
   compress-settles = compress-outcome n chain block forty ws
 
@@ -219,6 +225,110 @@ pub a2b-step-says-nothing : (k i : ℕ) (came : List ℕ)
     → Independent k (λ x r G. getD (a2bRecordCall k (minus k x r) r G came .1) i 0)
 a2b-step-says-nothing k i came =
     record-independent k i (5 * k + 5) (λ x r G. a2bRecord k (minus k x r) r G) came (a2b-independent k i)
+
+-- ==== Streaming: a tag while the message comes in pieces
+-- Start: refused, a state of zeros; accepted, the rule's, with the words of two compressions drawn.
+module _ (n : ℕ) (key ws : List ℕ) where
+  abbrev started : Streamed
+  started = startCall (sha1 32) n key ws
+
+  pub start-settles : Settles {A = State × ℕ}
+      (Asks (Allowed n) 1 (Asks (length key ≡ 16 * n) 2 (Asks (2 * (5220 * (n * (n - 1))) ≤ length ws) 5 Done)))
+      (started .number) (start (sha1 32) n key ws 0) (state 0 0 [] [] [], 0) (started .state, started .drawn)
+  start-settles = start-outcome n key ws
+
+  pub start-draws : started .number ≡ 0 → started .drawn ≡ 2 * (5220 * (n * (n - 1)))
+  start-draws = start-count n key ws
+
+  pub start-past-draws : started .number ≡ 0 → (vs : List ℕ)
+      → take (2 * (5220 * (n * (n - 1)))) ws ≡ take (2 * (5220 * (n * (n - 1)))) vs → started ≡ startCall (sha1 32) n key vs
+  start-past-draws = start-past n key ws
+
+-- Feed and finish, on any state at all. (That its chains have 40 words and its tail 64 bytes is its type's.) Number 6
+-- comes before all others. Refused, the state is as given. What is not read of the state, and the supply after the words
+-- drawn, has no influence.
+module _ (s : State) (whole : Whole s) (ws : List ℕ) where
+  module _ (piece : List ℕ) where
+    abbrev fed : Streamed
+    fed = feedCall (sha1 32) s piece ws
+
+    -- one compression for each block that the piece fills
+    abbrev feedsDraw : ℕ
+    feedsDraw = (s .bytes % 64 + length piece) / 64 * (5220 * (s .n * (s .n - 1)))
+
+    pub feed-settles : Settles {A = State × ℕ}
+        (Asks (Fit s) 6 (Asks (s .bytes + length piece ≤ 4096) 4 (Asks (feedsDraw ≤ length ws) 5 Done)))
+        (fed .number) (feed (sha1 32) s piece ws 0) (s, 0) (fed .state, fed .drawn)
+    feed-settles = feed-outcome s whole ws piece
+
+    pub feed-draws : fed .number ≡ 0 → fed .drawn ≡ feedsDraw
+    feed-draws = feed-count s whole ws piece
+
+    pub feed-past-draws : fed .number ≡ 0 → (t : State) (vs : List ℕ) → ReadAlike (SHA1 32) s t
+        → take feedsDraw ws ≡ take feedsDraw vs → fed ≡ feedCall (sha1 32) t piece vs
+    feed-past-draws = feed-past s whole ws piece
+
+  module _ (came : List ℕ) where
+    abbrev finished : Streamed × List ℕ
+    finished = finishCall (sha1 32) s came ws
+
+    abbrev finishDraws : ℕ
+    finishDraws = ((s .bytes % 64 + 8) / 64 + 2) * (5220 * (s .n * (s .n - 1)))
+
+    -- accepted, only the finished mark is set
+    pub finish-settles : (let made = finish (sha1 32) s ws 0 in
+        Settles {A = State × List ℕ × ℕ} (Asks (Fit s) 6 (Asks (length came ≡ 20) 3 (Asks (finishDraws ≤ length ws) 5 Done)))
+        (finished .0 .number) (closed s, made .0, made .1) (s, came, 0) (finished .0 .state, finished .1, finished .0 .drawn))
+    finish-settles = finish-outcome s whole ws came
+
+    pub finish-draws : finished .0 .number ≡ 0 → finished .0 .drawn ≡ finishDraws
+    finish-draws = finish-count s whole ws came
+
+    pub finish-past-draws : finished .0 .number ≡ 0 → (t : State) (vs : List ℕ) → ReadAlike (SHA1 32) s t
+        → take finishDraws ws ≡ take finishDraws vs → (let o = finishCall (sha1 32) t came vs in
+        (o .1 ≡ finished .1) × (o .0 .number ≡ 0) × (o .0 .drawn ≡ finished .0 .drawn))
+    finish-past-draws = finish-past s whole ws came
+
+-- A number is given exactly when it is said: whatever is asked, no two numbers fit.
+pub asks-exactly : {A B C : Type 0} {a b c i j : ℕ}
+    → Asks A a (Asks B b (Asks C c Done)) i → Asks A a (Asks B b (Asks C c Done)) j → i ≡ j
+asks-exactly = only (only (only done-only))
+
+-- Any cutting, at every width: two lists of pieces with the same bytes joined, each piece with a supply of its own, none
+-- refused, and the words drawn the same when joined in order, end in the same state, hence in the same tag.
+module _ (k : ℕ) (wide : 0 < k) (n : ℕ) (key ws : List ℕ) (accepted : startCall (sha1 k) n key ws .number ≡ 0) where
+  abbrev s₀ : State
+  s₀ = startCall (sha1 k) n key ws .state
+
+  pub any-cutting : (fs gs : Feeds) → Accepted (sha1 k) s₀ fs → Accepted (sha1 k) s₀ gs
+      → message fs ≡ message gs → drawn (sha1 k) s₀ fs ≡ drawn (sha1 k) s₀ gs
+      → (after (sha1 k) s₀ fs ≡ after (sha1 k) s₀ gs)
+      × ((came vs : List ℕ) → finishCall (sha1 k) (after (sha1 k) s₀ fs) came vs ≡ finishCall (sha1 k) (after (sha1 k) s₀ gs) came vs)
+  any-cutting fs gs f g bytes words =
+      let same = sha1-cuts k wide n key ws accepted fs gs f g bytes words in
+      (same, λ came vs. ap (λ s. finishCall (sha1 k) s came vs) same)
+
+  -- The count: over any run of accepted calls, the words of floor((L + 8)/64) + 4 compressions.
+  pub streamed-count : (fs : Feeds) → Accepted (sha1 k) s₀ fs → (came vs : List ℕ)
+      → (let o = finishCall (sha1 k) (after (sha1 k) s₀ fs) came vs .0 in o .number ≡ 0
+      → startCall (sha1 k) n key ws .drawn + length (drawn (sha1 k) s₀ fs) + o .drawn
+      ≡ ((length (message fs) + 8) / 64 + 4) * compressDraws k n)
+  streamed-count = sha1-words k wide n key ws accepted
+
+-- The tag: RFC 2104's of the opened key and the joined pieces, whatever the words are; so it is the one-call tag.
+module _ (n : ℕ) (key ws : List ℕ) (words : Words 32 key) (accepted : startCall (sha1 32) n key ws .number ≡ 0)
+    (fs : Feeds) (bytes : Words 8 (message fs)) (taken : Accepted (sha1 32) (startCall (sha1 32) n key ws .state) fs) where
+  abbrev last : List ℕ → List ℕ → Streamed × List ℕ
+  last came vs = finishCall (sha1 32) (after (sha1 32) (startCall (sha1 32) n key ws .state) fs) came vs
+
+  pub streamed-tag-is-rfc2104 : (came vs : List ℕ) → last came vs .0 .number ≡ 0
+      → last came vs .1 ≡ hmac (SHA1 32) (allBytes 4 (openWords n 16 key)) (message fs)
+  streamed-tag-is-rfc2104 = streamed-tag n key (message fs) words bytes ws accepted fs refl taken
+
+  pub streamed-tag-is-one-call : (came vs other us : List ℕ) → last came vs .0 .number ≡ 0
+      → (let o = hmacCall 32 n key (message fs) other us in o .0 .number ≡ 0 → last came vs .1 ≡ o .1)
+  streamed-tag-is-one-call came vs other us h g =
+      streamed-tag-is-rfc2104 came vs h ∙ sym (one-call-tag n key (message fs) words bytes other us g)
 
 -- ==== No two differing outcomes satisfy one promise: in general, and of a tag
 pub no-two-outcomes : {O : Type 0} (promised one other : O) → promised ≡ one → promised ≡ other → one ≡ other

@@ -164,7 +164,7 @@ unfolding used
 open-used n s h =
     sym (open-front n 5 (take (5 * n) s) (drop (5 * n) s) h) ∙ ap (openWords n 5) (take-append-drop (5 * n) s)
 
-words-opened : (k n m : ℕ) (s : List ℕ) → Words k s → Words k (openWords n m s)
+pub words-opened : (k n m : ℕ) (s : List ℕ) → Words k s → Words k (openWords n m s)
 unfolding openWords
 words-opened k n zero s w i = pow-pos k
 words-opened k n (suc m) s w zero = opened-lt k (take n s) (words-take k n s w)
@@ -195,7 +195,7 @@ module _ (n : ℕ) (chain : Chain) (block : List ℕ) (whole : length (chain .sh
 
     -- ---- by that number: the new chain, or the one given
     pub compress-outcome : (let made = rule ws 0 in
-        Settles {A = Chain × ℕ} (Allowed n) (length block ≡ 16 * n) None None (d ≤ length ws) (o .number)
+        Settles {A = Chain × ℕ} (Given (Allowed n) (length block ≡ 16 * n) None None (d ≤ length ws)) (o .number)
         (record { shares = made .0 ++ replicate (40 - 5 * n) 0 }, made .1) (chain, 0) (o .chain, o .drawn))
     unfolding chainOf
     compress-outcome =

@@ -31,6 +31,11 @@ bytes-are-bytes zero v i = lit< tt
 bytes-are-bytes (suc m) v zero = mod-lt (v / 256 ^ m) (zero-lt-suc 255)
 bytes-are-bytes (suc m) v (suc i) = bytes-are-bytes m v i
 
+pub all-bytes-are-bytes : (size : ℕ) (s : List ℕ) → Words 8 (allBytes size s)
+unfolding allBytes
+all-bytes-are-bytes size [] = λ i. lit< tt
+all-bytes-are-bytes size (w ∷ s) = words-join 8 (bytesOf size w) (allBytes size s) (bytes-are-bytes size w) (all-bytes-are-bytes size s)
+
 pub padding-is-bytes : (H : Hash) (l : ℕ) → Words 8 (padding H l)
 unfolding padding
 padding-is-bytes H l zero = lit< tt

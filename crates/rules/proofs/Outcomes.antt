@@ -11,11 +11,12 @@ use lib.Dec.{eqb, leb}
 use lib.ListN.{length, getD, take, length-take}
 use lib.Seq.{length-take-le, getD-take}
 use borrow.Author.Tests.{eqb-true, eqb-false, leb-true, leb-false, le-leb}
+use Rattle.rules.specs.declared.Answer.{Answer}
 use Rattle.rules.specs.Supply.{Draw, Rule, Words}
-use Rattle.rules.specs.Numbers.{either, both, allowed, test, first, settled}
+use Rattle.rules.specs.Numbers.{longestMessage, either, both, allowed, fit, Test, test, first, settled}
 use Rattle.rules.specs.Independent.{Independent}
 use Rattle.rules.specs.Calls.{call, openCall, recordCall}
-use Rattle.rules.specs.Outcome.{Allowed, None, Given, done, one, two, three, four, five}
+use Rattle.rules.specs.Outcome.{Allowed, None, Asks, fails, holds, Done, Given}
 use Rattle.rules.specs.Outcome.{Settles, OnShares, Follows, Makes}
 
 -- ---- what a test says of the condition that it tests
@@ -35,6 +36,10 @@ says-eq a b = says (a ≡ b) (eqb a b) (eqb-true a b) (eqb-false a b)
 
 pub says-le : (a b : ℕ) → Says (a ≤ b) (leb a b)
 says-le a b = says (a ≤ b) (leb a b) (leb-true a b) (λ e h. omega (arith, leb-false a b e))
+
+says-as : {A B : Type 0} {b : Bool} → (A → B) → (B → A) → Says A b → Says B b
+says-as f g (yes p) = yes (f p)
+says-as f g (no p) = no (λ h. p (g h))
 
 says-both : {A B : Type 0} {a b : Bool} → Says A a → Says B b → Says (A × B) (both a b)
 says-both (yes p) (yes q) = yes (p, q)
@@ -58,50 +63,72 @@ pub says-count : (n : ℕ) → Says (Allowed n) (allowed n)
 unfolding allowed
 says-count n = says-either (says-eq n 1) (says-either (says-eq n 2) (says-either (says-eq n 4) (says-eq n 8)))
 
+pub says-fit : (n bytes finished : ℕ)
+    → Says ((finished ≡ 0) × Allowed n × (bytes ≤ longestMessage)) (fit n bytes finished)
+unfolding fit
+says-fit n bytes finished =
+    says-as (λ p. (p .0, p .1 .0, p .1 .1)) (λ p. (p .0, (p .1, p .2)))
+    (says-both (says-eq finished 0) (says-both (says-count n) (says-le bytes longestMessage)))
+
 pub passed : {A : Type 0} {b : Bool} → Says A b → A → b ≡ true
 passed (yes p) h = refl
 passed (no p) h = absurd (p h)
 
--- ---- the number of five tests, in order; of the last it is asked only where the others are passed
-given-last : {A B C D E : Type 0} {e : Bool} → A → B → C → D → Says E e → Given A B C D E (first (test 5 e ∷ []))
+-- ---- the number of tests in order; of each it is asked only where those before it are passed
+pub gives : {A : Type 0} {Rest : ℕ → Type 0} {a : Bool} (m : ℕ) (ts : List Test) → Says A a → (A → Rest (first ts))
+    → Asks A (suc m) Rest (first (test (suc m) a ∷ ts))
 unfolding first test
-given-last p q r s (yes t) = done p q r s t
-given-last p q r s (no t) = five p q r s t
+gives m ts (yes p) rest = holds p (rest p)
+gives m ts (no p) rest = fails p
+
+all-passed : first [] ≡ 0
+unfolding first
+all-passed = refl
 
 pub given : {A B C D E : Type 0} {a b c d e : Bool}
     → Says A a → Says B b → Says C c → Says D d → (A → B → C → D → Says E e)
     → Given A B C D E (first (test 1 a ∷ test 2 b ∷ test 3 c ∷ test 4 d ∷ test 5 e ∷ []))
-unfolding first given-last
-given (no p) b c d e = one p
-given (yes p) (no q) c d e = two p q
-given (yes p) (yes q) (no r) d e = three p q r
-given (yes p) (yes q) (yes r) (no s) e = four p q r s
-given (yes p) (yes q) (yes r) (yes s) e = given-last p q r s (e p q r s)
+given {a = a} {b = b} {c = c} {d = d} {e = e} pa pb pc pd pe =
+    gives 0 (test 2 b ∷ test 3 c ∷ test 4 d ∷ test 5 e ∷ []) pa (λ p.
+    gives 1 (test 3 c ∷ test 4 d ∷ test 5 e ∷ []) pb (λ q.
+    gives 2 (test 4 d ∷ test 5 e ∷ []) pc (λ r.
+    gives 3 (test 5 e ∷ []) pd (λ s.
+    gives 4 [] (pe p q r s) (λ t. all-passed)))))
 
 -- ---- by the number: what was made, or what came
-pub settles : {A Count Input Output Text Supply : Type 0} (number : ℕ) (made came after : A)
-    → Given Count Input Output Text Supply number → after ≡ settled number made came
-    → Settles Count Input Output Text Supply number made came after
+pub settles : {A : Type 0} {Number : ℕ → Type 0} (number : ℕ) (made came after : A)
+    → Number number → after ≡ settled number made came → Settles Number number made came after
 settles zero made came after g e = record { given = g; refused-leaves = λ h. absurd (h refl); accepted-is = λ h. e }
 settles (suc m) made came after g e =
     record { given = g; refused-leaves = λ h. e; accepted-is = λ h. absurd (omega arith) }
 
 -- what was asked for is there where the number is 0
+pub ask : {A : Type 0} {m number : ℕ} {Rest : ℕ → Type 0} → Asks A (suc m) Rest number → number ≡ 0 → A × Rest number
+ask (fails p) h = absurd (omega arith)
+ask (holds a r) h = (a, r)
+
 pub asked : {C I O T S : Type 0} {number : ℕ} → Given C I O T S number → number ≡ 0 → C × I × O × T × S
-asked (done c i o t s) h = (c, i, o, t, s)
-asked (one p) h = absurd (omega arith)
-asked (two c p) h = absurd (omega arith)
-asked (three c i p) h = absurd (omega arith)
-asked (four c i o p) h = absurd (omega arith)
-asked (five c i o t p) h = absurd (omega arith)
+asked g h =
+    let c = ask {m = 0} g h in
+    let i = ask {m = 1} (c .1) h in
+    let o = ask {m = 2} (i .1) h in
+    let t = ask {m = 3} (o .1) h in
+    let s = ask {m = 4} (t .1) h in
+    (c .0, i .0, o .0, t .0, s .0)
 
 pub settled-pair : {A B : Type 0} (number : ℕ) (a : A × B) (c : A) (d : B)
     → (settled number (a .0) c, settled number (a .1) d) ≡ settled number a (c, d)
 settled-pair zero a c d = refl
 settled-pair (suc number) a c d = refl
 
+pub settled-three : {A B C : Type 0} (number : ℕ) (a a′ : A) (b b′ : B) (c c′ : C)
+    → _≡_ {A = A × B × C} (settled number a a′, settled number b b′, settled number c c′)
+    (settled number (a, b, c) (a′, b′, c′))
+settled-three zero a a′ b b′ c c′ = refl
+settled-three (suc number) a a′ b b′ c c′ = refl
+
 -- ---- a rule from place 0
-module _ {d : ℕ} {P : List ℕ → Type 0} {rule : Draw (List ℕ)} (law : Rule d P rule) (ws : List ℕ) where
+module _ {S : Type 0} {d : ℕ} {P : S → Type 0} {rule : Draw S} (law : Rule d P rule) (ws : List ℕ) where
   pub place : rule ws 0 .1 ≡ d
   place = law .place ws 0 ∙ zero-add d
 
@@ -121,6 +148,60 @@ module _ {d : ℕ} {P : List ℕ → Type 0} {rule : Draw (List ℕ)} (law : Rul
 
     pub as-long : d ≤ length vs
     as-long = omega (arith, length-take d vs, ap length same, length-take-le d ws enough)
+
+-- ---- a call of two tests, whichever they are, and the supply
+module _ {S A B : Type 0} {a b : Bool} (i j d : ℕ) {P : S → Type 0} (rule : Draw S) (says-a : Says A a) (says-b : Says B b)
+    (law : A → B → Rule d P rule) (came : S) (ws : List ℕ) where
+  abbrev tests : List Test
+  tests = test (suc i) a ∷ test (suc j) b ∷ []
+
+  abbrev answered : Answer × S
+  answered = call tests rule came ws
+
+  answer-number : Asks A (suc i) (Asks B (suc j) (Asks (d ≤ length ws) 5 Done)) (answered .0 .number)
+  unfolding call
+  answer-number =
+      gives i (test (suc j) b ∷ test 5 _ ∷ []) says-a (λ p.
+      gives j (test 5 _ ∷ []) says-b (λ q. gives 4 [] (says-supply (law p q) ws) (λ t. all-passed)))
+
+  pub call-settles : Settles {A = S × ℕ} (Asks A (suc i) (Asks B (suc j) (Asks (d ≤ length ws) 5 Done)))
+      (answered .0 .number) (rule ws 0) (came, 0) (answered .1, answered .0 .drawn)
+  unfolding call
+  call-settles =
+      settles (answered .0 .number) (rule ws 0) (came, 0) _ answer-number
+      (settled-pair (answered .0 .number) (rule ws 0) came 0)
+
+  module _ (accepted : answered .0 .number ≡ 0) where
+    pub call-asked : A × B × (d ≤ length ws)
+    call-asked =
+        let p = ask {m = i} answer-number accepted in
+        let q = ask {m = j} (p .1) accepted in
+        (p .0, q .0, ask {m = 4} (q .1) accepted .0)
+
+    abbrev its : Rule d P rule
+    its = law (call-asked .0) (call-asked .1)
+
+    pub call-draws : answered .0 .drawn ≡ d
+    unfolding call
+    call-draws = rw accepted (place its ws)
+
+    -- what is done is done by any rule that does the same, from any supply with the same first words
+    pub call-past : (other : Draw S) (instead : S) (vs : List ℕ) → rule vs 0 ≡ other vs 0 → take d ws ≡ take d vs
+        → answered ≡ call tests other instead vs
+    unfolding call
+    call-past other instead vs alike-rules same =
+        let enough = call-asked .2 in
+        let long = as-long its ws vs same enough in
+        let zero : first (test (suc i) a ∷ test (suc j) b ∷ test 5 true ∷ []) ≡ 0 =
+        rw (place its ws, le-leb d (length ws) enough) at accepted in
+        rw (
+          ← alike-rules,
+          ← alike its ws vs same enough,
+          place its ws,
+          le-leb d (length ws) enough,
+          le-leb d (length vs) long,
+          zero,
+        )
 
 -- ---- a call on shares follows its rule, which has its law where the call's tests are passed
 abbrev pub callOf : ℕ → Bool → ℕ → Bool → Draw (List ℕ) → OnShares
@@ -171,28 +252,17 @@ pub follows : {n size d : ℕ} {Input Text : Type 0} {input text : Bool} {P : Li
 follows {n} {size} {d} {input = input} {text = text} {rule = rule} = followed n size d input text rule
 
 -- ---- the conditions leave one number
--- the condition A, where it fails, gives m; else what R gives
-data Ask (A : Type 0) (m : ℕ) (R : ℕ → Type 0) : ℕ → Type 0 where
-  fails : (A → ⊥) → Ask A m R m
-  holds : {number : ℕ} → A → R number → Ask A m R number
-
-asks : {A B C D E : Type 0} {number : ℕ} → Given A B C D E number
-    → Ask A 1 (Ask B 2 (Ask C 3 (Ask D 4 (Ask E 5 (λ number. number ≡ 0))))) number
-asks (done a b c d e) = holds a (holds b (holds c (holds d (holds e refl))))
-asks (one a) = fails a
-asks (two a b) = holds a (fails b)
-asks (three a b c) = holds a (holds b (fails c))
-asks (four a b c d) = holds a (holds b (holds c (fails d)))
-asks (five a b c d e) = holds a (holds b (holds c (holds d (fails e))))
-
-only : {A : Type 0} {m i j : ℕ} {R : ℕ → Type 0} → (R i → R j → i ≡ j) → Ask A m R i → Ask A m R j → i ≡ j
+pub only : {A : Type 0} {m i j : ℕ} {R : ℕ → Type 0} → (R i → R j → i ≡ j) → Asks A m R i → Asks A m R j → i ≡ j
 only rest (fails p) (fails q) = refl
 only rest (fails p) (holds a r) = absurd (p a)
 only rest (holds a r) (fails q) = absurd (q a)
 only rest (holds a r) (holds b s) = rest r s
 
+pub done-only : {i j : ℕ} → Done i → Done j → i ≡ j
+done-only p q = p ∙ sym q
+
 pub exactly : {A B C D E : Type 0} {i j : ℕ} → Given A B C D E i → Given A B C D E j → i ≡ j
-exactly g h = only (only (only (only (only (λ p q. p ∙ sym q))))) (asks g) (asks h)
+exactly = only (only (only (only (only done-only))))
 
 -- ---- what a call makes, from what its rule makes where the call's tests are passed
 module _ {n size d k : ℕ} {Input Text : Type 0} {rule : Draw (List ℕ)} {f : OnShares} {P : List ℕ → Type 0} where
@@ -210,14 +280,14 @@ module _ {n size d k : ℕ} {Input Text : Type 0} {rule : Draw (List ℕ)} {f : 
 
 -- ---- openings and records
 pub open-settles : (n : ℕ) (x : List ℕ) (word : ℕ)
-    → (let o = openCall n x word in Settles (Allowed n) (length x ≡ n) None None None (o .number) word 0 (o .word))
+    → (let o = openCall n x word in Settles (Given (Allowed n) (length x ≡ n) None None None) (o .number) word 0 (o .word))
 unfolding first test
 open-settles n x word =
     settles (openCall n x word .number) word 0 _
     (given (says-count n) (says-eq (length x) n) untested untested (λ c i o t. untested)) refl
 
 pub record-settles : (size : ℕ) (steps came : List ℕ)
-    → (let o = recordCall size steps came in Settles None None (length came ≡ size) None None (o .0) steps came (o .1))
+    → (let o = recordCall size steps came in Settles (Given None None (length came ≡ size) None None) (o .0) steps came (o .1))
 unfolding first test
 record-settles size steps came =
     settles (recordCall size steps came .0) steps came _

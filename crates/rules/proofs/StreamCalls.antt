@@ -23,6 +23,7 @@ use Rattle.rules.specs.Hmac.{Masked}
 use Rattle.rules.specs.Counts.{startDraws, feedDraws, finishDraws, sha1}
 use Rattle.rules.specs.Stream.{inUse, waiting, isFit, state, start, feed, finish, startWords, feedWords, finishWords}
 use Rattle.rules.specs.Stream.{streamed, startCall, feedCall, fedAnswer, finishCall, closed}
+use Rattle.rules.specs.Outcome.{Whole}
 use Rattle.rules.proofs.Rule.{said, alike}
 use Rattle.rules.proofs.Allowed.{within}
 use Rattle.rules.proofs.Bytes.{length-allBytes}
@@ -35,12 +36,6 @@ use Rattle.rules.proofs.Streaming.{Started, start-rule, feed-reads, fin
 use Rattle.rules.proofs.Calls.{passed, holds, tells, settled-refused, refused, done}
 use Rattle.rules.proofs.Loops.{chain-length}
 use Rattle.rules.proofs.Tested.{needs, taken, fits}
-
--- the sizes of a state's type
-pub record Whole (s : State) : Type 0 where
-  pub inner-whole : length (s .inner .shares) ≡ 40
-  pub outer-whole : length (s .outer .shares) ≡ 40
-  pub tail-whole : length (s .tail) ≡ 64
 
 module _ (M : Masked) (s : State) (some : 0 < s .n) (keeps : Keeps M (s .n) (λ v. Unit {0}) (Sized (s .n)))
     (sixty-four : blockBytes (M .standard) ≡ 64) (room : chainWords (M .standard) * s .n ≤ 40) where

@@ -14,7 +14,7 @@ use Rattle.rules.specs.Hash.{Hash, blockBytes, chainWords, wordsOf, endi
 use Rattle.rules.specs.Sha1.{publics}
 use Rattle.rules.specs.Hmac.{Masked, everyByte, digestPadding, keyStep, textStep, digestStep, tagOf}
 use Rattle.rules.specs.Counts.{startDraws, feedDraws, finishDraws}
-use Rattle.rules.specs.Stream.{inUse, waiting, filled, state, start, fullBlocks, feed, finish}
+use Rattle.rules.specs.Stream.{inUse, waiting, ReadAlike, filled, state, start, fullBlocks, feed, finish}
 use Rattle.rules.proofs.Rule.{give, bind, said, counted, alike}
 use Rattle.rules.proofs.Bytes.{length-words, words-front, words-split}
 use Rattle.rules.proofs.Goods.{Goods, goods-size}
@@ -150,6 +150,18 @@ pub finish-reads : (M : Masked) (s : State) (ws : List ℕ) (at : ℕ)
     finish M s ws at ≡ finishedFrom M (s .n) (s .bytes) (inUse H s (s .inner)) (inUse H s (s .outer)) (waiting H s) ws at)
 unfolding finish
 finish-reads M s ws at = refl
+
+-- nothing else of a state has a say
+module _ (M : Masked) (s t : State) (alike-read : ReadAlike (M .standard) s t) where
+  pub feed-alike : (piece ws : List ℕ) (at : ℕ) → feed M s piece ws at ≡ feed M t piece ws at
+  feed-alike piece ws at =
+      let a = alike-read in
+      feed-reads M s piece ws at ∙ rw (a .inners, a .outers, a .tails, a .counts, a .bytes-fed) (sym (feed-reads M t piece ws at))
+
+  pub finish-alike : (ws : List ℕ) (at : ℕ) → finish M s ws at ≡ finish M t ws at
+  finish-alike ws at =
+      let a = alike-read in
+      finish-reads M s ws at ∙ rw (a .inners, a .outers, a .tails, a .counts, a .bytes-fed) (sym (finish-reads M t ws at))
 
 -- ---- what they make
 module _ {M : Masked} {n : ℕ} {Fits : ℕ → Type 0} {Good : List ℕ → ℕ → Type 0} (keeps : Keeps M n Fits Good)

@@ -5,28 +5,42 @@ use mathlib.Core.List.{List}
 use mathlib.Core.Logic.{_⊎_}
 use lib.ListN.{length, take}
 use Rattle.rules.specs.declared.Answer.{Answer}
+use Rattle.rules.specs.declared.State.{State}
 use Rattle.rules.specs.Supply.{Draw, Words}
+use Rattle.rules.specs.Numbers.{longestMessage}
 
 -- the share counts that calls take
 abbrev pub Allowed : ℕ → Type 0
 Allowed n = (n ≡ 1) ⊎ (n ≡ 2) ⊎ (n ≡ 4) ⊎ (n ≡ 8)
 
+-- a state that feed and finish take; and the sizes that a state has by its type
+abbrev pub Fit : State → Type 0
+Fit s = (s .finished ≡ 0) × Allowed (s .n) × (s .bytes ≤ longestMessage)
+
+pub record Whole (s : State) : Type 0 where
+  pub inner-whole : length (s .inner .shares) ≡ 40
+  pub outer-whole : length (s .outer .shares) ≡ 40
+  pub tail-whole : length (s .tail) ≡ 64
+
 -- what a call does not take it does not test
 abbrev pub None : Type 0
 None = Unit {0}
 
--- Section 3: which number is given, by what holds of the share count, the input slices, the output slice, the text and the supply
-pub data Given (Count Input Output Text Supply : Type 0) : ℕ → Type 0 where
-  done : Count → Input → Output → Text → Supply → Given Count Input Output Text Supply 0
-  one : (Count → ⊥) → Given Count Input Output Text Supply 1
-  two : Count → (Input → ⊥) → Given Count Input Output Text Supply 2
-  three : Count → Input → (Output → ⊥) → Given Count Input Output Text Supply 3
-  four : Count → Input → Output → (Text → ⊥) → Given Count Input Output Text Supply 4
-  five : Count → Input → Output → Text → (Supply → ⊥) → Given Count Input Output Text Supply 5
+-- Section 3: a test gives its own number where what it asks does not hold; else the tests after it decide, and at last 0
+pub data Asks (A : Type 0) (own : ℕ) (Rest : ℕ → Type 0) : ℕ → Type 0 where
+  fails : (A → ⊥) → Asks A own Rest own
+  holds : {number : ℕ} → A → Rest number → Asks A own Rest number
+
+abbrev pub Done : ℕ → Type 0
+Done number = number ≡ 0
+
+-- which number is given, by what holds of the share count, the input slices, the output slice, the text and the supply
+abbrev pub Given : Type 0 → Type 0 → Type 0 → Type 0 → Type 0 → ℕ → Type 0
+Given Count Input Output Text Supply = Asks Count 1 (Asks Input 2 (Asks Output 3 (Asks Text 4 (Asks Supply 5 Done))))
 
 -- what there is afterwards, by that number: what was made, or all as it came
-pub record Settles {A : Type 0} (Count Input Output Text Supply : Type 0) (number : ℕ) (made came after : A) : Type 0 where
-  pub given : Given Count Input Output Text Supply number
+pub record Settles {A : Type 0} (Number : ℕ → Type 0) (number : ℕ) (made came after : A) : Type 0 where
+  pub given : Number number
   pub refused-leaves : (number ≡ 0 → ⊥) → after ≡ came
   pub accepted-is : number ≡ 0 → after ≡ made
 
@@ -38,7 +52,7 @@ OnShares = List ℕ → List ℕ → Answer × List ℕ
 pub record Follows (n : ℕ) (Input : Type 0) (size : ℕ) (Text : Type 0) (d : ℕ) (rule : Draw (List ℕ)) (f : OnShares) : Type 0 where
   -- refused, the output slice is as it came and the count is 0; accepted, both are the rule's, from place 0
   pub outcome : (came ws : List ℕ) → (let o = f came ws in
-      Settles (Allowed n) Input (length came ≡ size) Text (d ≤ length ws) (o .0 .number)
+      Settles (Given (Allowed n) Input (length came ≡ size) Text (d ≤ length ws)) (o .0 .number)
       (rule ws 0) (came, 0) (o .1, o .0 .drawn))
   pub count : (came ws : List ℕ) → f came ws .0 .number ≡ 0 → f came ws .0 .drawn ≡ d
   -- any supply that begins with the same d words gives the same outcome

@@ -28,6 +28,15 @@ inUse H s chain = take (chainWords H * s .n) (chain .shares)
 abbrev pub waiting : Hash → State → Bytes
 waiting H s = take (s .bytes % blockBytes H) (s .tail)
 
+-- of two states the same is read
+pub record ReadAlike (H : Hash) (s t : State) : Type 0 where
+  pub counts : s .n ≡ t .n
+  pub bytes-fed : s .bytes ≡ t .bytes
+  pub marks : s .finished ≡ t .finished
+  pub inners : inUse H s (s .inner) ≡ inUse H t (t .inner)
+  pub outers : inUse H s (s .outer) ≡ inUse H t (t .outer)
+  pub tails : waiting H s ≡ waiting H t
+
 -- a state made anew: unused words of both chains and unfilled bytes of the tail are 0
 abbrev pub filled : ℕ → List ℕ → List ℕ
 filled room x = x ++ replicate (room - length x) 0
