@@ -3,7 +3,7 @@
 
 use crate::answer;
 use crate::{Drawn, Refusal};
-use std::arch::{asm, is_x86_feature_detected};
+use std::arch::asm;
 use std::fmt;
 use zeroize::Zeroize;
 
