@@ -1,5 +1,4 @@
 -- The answer of a feed, taken apart: one that is not taken is a refusal, and draws nothing.
-use Prim.Native.Nat.{ℕ}
 use mathlib.Core.Path.{_≡_, refl}
 use native.Mathlib.Omega.{arith}
 use denote.Enum.Declared.{tagOf}

@@ -331,7 +331,11 @@ pub extern "C" fn flamivorse_hmac_sha1_feed(state: State, piece: &[u8], words: &
 
 // The tag of what was fed to a state.
 #[no_mangle]
-pub extern "C" fn flamivorse_hmac_sha1_finish(state: State, tag: &mut [u8], words: &[u32]) -> Streamed
+pub extern "C" fn flamivorse_hmac_sha1_finish(
+    state: State,
+    tag: &mut [u8],
+    words: &[u32],
+) -> Streamed
     ensures { λ r. ⌜ finishCall (sha1 32) state (now (tag .entry)) (now (words .entry)) ≡ (r, now (tag .exit)) ⌝ }
 {
     let need = finish_words(state).drawn;

@@ -1,8 +1,8 @@
 -- Runs of the streaming calls from an accepted start: any cutting, the count, and the tag. crates/claims takes them to SHA-1.
-use Prim.Native.Nat.{ℕ, zero, suc, _+_, _-_, _*_, _/_, _%_, _^_, _≤_, _<_}
-use mathlib.Core.Path.{_≡_, refl, sym, ap, ap₂, _∙_, subst}
+use Prim.Native.Nat.{ℕ, _+_, _-_, _*_, _/_, _%_, _^_, _≤_, _<_}
+use mathlib.Core.Path.{_≡_, refl, sym, ap, _∙_}
 use mathlib.Core.Bool.{true}
-use mathlib.Core.List.{List, [], _∷_, _++_, append-nil}
+use mathlib.Core.List.{List, [], _∷_, append-nil}
 use native.Mathlib.Nat.{zero-add, add-mul}
 use native.Mathlib.Omega.{arith}
 use lib.ListN.{length, take, drop}
@@ -28,15 +28,15 @@ use Rattle.rules.proofs.Allowed.{within}
 use Rattle.rules.proofs.Bytes.{bytes-are-words, all-bytes-are-bytes, length-allBytes, words-back}
 use Rattle.rules.proofs.Conversion.{words-drop, add-adds}
 use Rattle.rules.proofs.Goods.{Goods, goods-size, goods-open, length-open}
-use Rattle.rules.proofs.Hashes.{Chains, Proper, ending-words, key-bytes, hmacOf, hmacOf-is}
+use Rattle.rules.proofs.Hashes.{Chains, Proper, ending-words, key-bytes, hmacOf-is}
 use Rattle.rules.proofs.MaskedHmac.{Keeps}
 use Rattle.rules.proofs.Sizes.{Sized, words-size, add-sizes, sha1-sizes, sha1-size, compress-count}
 use Rattle.rules.proofs.Tags.{sha1-proper, sha1-chains, hmacTag-is}
 use Rattle.rules.proofs.Outcomes.{says-count, says-eq, says-le, says-fit, passed as passes}
-use Rattle.rules.proofs.Outcomes.{settles, settled-three, call-settles, call-asked, call-draws, call-past}
+use Rattle.rules.proofs.Outcomes.{settles, settled-three, call-settles, call-draws, call-past}
 use Rattle.rules.proofs.Opens.{Masks, masks, sha1-opens}
-use Rattle.rules.proofs.Streaming.{Readable, Started, start-rule, feed-alike, finish-alike}
-use Rattle.rules.proofs.Runs.{Clean, Holds, holds-none, holds-run, tag-rule, any-cutting, run-counts, run-clean, finish-counts}
+use Rattle.rules.proofs.Streaming.{Readable, start-rule, feed-alike, finish-alike}
+use Rattle.rules.proofs.Runs.{Clean, holds-none, holds-run, tag-rule, any-cutting, run-counts, run-clean, finish-counts}
 use Rattle.rules.proofs.Runs.{finished-tag, finished-drawn}
 use Rattle.rules.proofs.Calls.{passed, holds}
 use Rattle.rules.proofs.AtCalls.{words-opened}
@@ -350,6 +350,8 @@ module _ (s : State) (whole : Whole s) (ws : List ℕ) where
         call-past 5 2 finish-words (finish (sha1 32) s) (says-fit (s .n) (s .bytes) (s .finished))
         (says-eq (length came) 20) finish-law came ws ok
         (finish (sha1 32) t) came vs (finish-alike (sha1 32) s t alike vs 0) same
-        ∙ rw (alike .counts, alike .bytes-fed, alike .marks) in
-        (sym (ap (λ (o : Answer × List ℕ). o .1) e), sym (ap (λ (o : Answer × List ℕ). o .0 .number) e) ∙ ok,
-        sym (ap (λ (o : Answer × List ℕ). o .0 .drawn) e))
+        ∙ rw (alike .counts, alike .bytes-fed, alike .marks) in (
+          sym (ap (λ (o : Answer × List ℕ). o .1) e),
+          sym (ap (λ (o : Answer × List ℕ). o .0 .number) e) ∙ ok,
+          sym (ap (λ (o : Answer × List ℕ). o .0 .drawn) e),
+        )

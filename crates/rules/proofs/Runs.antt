@@ -1,5 +1,5 @@
 -- Runs of feeds from a start: how the message is cut has no say, how many words are drawn in all, and whose tag it is.
-use Prim.Native.Nat.{ℕ, zero, suc, _+_, _-_, _*_, _/_, _%_, _≤_, _<_}
+use Prim.Native.Nat.{ℕ, _+_, _-_, _*_, _/_, _%_, _≤_, _<_}
 use mathlib.Core.Path.{_≡_, refl, sym, ap, ap₂, _∙_, subst}
 use mathlib.Core.List.{List, [], _∷_, _++_, map, append-assoc, append-nil}
 use native.Mathlib.Nat.{zero-add, add-zero, zero-mul, add-mul, mul-assoc}
@@ -23,7 +23,7 @@ use Rattle.rules.proofs.Hashes.{Proper, blocks-joined, last-blocks, hma
 use Rattle.rules.proofs.Goods.{Goods, goods-size}
 use Rattle.rules.proofs.MaskedHmac.{Keeps}
 use Rattle.rules.proofs.Sizes.{Sized, words-size}
-use Rattle.rules.proofs.Streaming.{Readable, left-over, whole-part, full-rule, dropped, counted-so, ends-so, Made, made-fed, made-finished, Fed, fed-rule, finished-rule, fedFrom, nothing, joined, rest-size}
+use Rattle.rules.proofs.Streaming.{Readable, left-over, whole-part, full-rule, dropped, counted-so, ends-so, Made, made-fed, made-finished, fed-rule, finished-rule, fedFrom, nothing, joined, rest-size}
 use Rattle.rules.proofs.Calls.{passed, holds}
 
 -- ---- words drawn, and words after them
@@ -205,11 +205,12 @@ module _ (M : Masked) (n : ℕ) (some : 0 < n) (keeps : Keeps M n (λ v. Unit {0
       rw (fed-drawn M s p ws (ok .0)) (length-take-le _ ws (fed-enough M s p ws (ok .0)) ∙ place) in
       let more = run-counts fs t next (ok .1) in
       let bytes : t .bytes ≡ s .bytes + length p = ap (λ (u : State). u .bytes) is ∙ grown s p ws 0 in
-      let all = length-append p (message fs) in
-      (length-append (take (feedCall M s p ws .drawn) ws) (drawn M t fs)
-      ∙ ap₂ (λ a b. a + b) size (more .0 ∙ ap (λ b. feedDraws M n b (length (message fs))) bytes)
-      ∙ parts (s .bytes) (length p) (length (message fs)) ∙ ap (feedDraws M n (s .bytes)) (sym all),
-      more .1 ∙ omega (arith, bytes, all))
+      let all = length-append p (message fs) in (
+        length-append (take (feedCall M s p ws .drawn) ws) (drawn M t fs)
+            ∙ ap₂ (λ a b. a + b) size (more .0 ∙ ap (λ b. feedDraws M n b (length (message fs))) bytes)
+            ∙ parts (s .bytes) (length p) (length (message fs)) ∙ ap (feedDraws M n (s .bytes)) (sym all),
+        more .1 ∙ omega (arith, bytes, all),
+      )
 
   pub run-clean : (fs : Feeds) (s : State) → Clean s → Accepted M s fs → Clean (after M s fs)
   unfolding after Accepted

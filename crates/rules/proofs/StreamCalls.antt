@@ -6,17 +6,16 @@ use mathlib.Core.List.{List, [], _∷_, map}
 use native.Mathlib.Nat.{zero-add}
 use native.Mathlib.Omega.{arith}
 use lib.Dec.{eqb, leb}
-use lib.ListN.{length, take, length-map}
+use lib.ListN.{length, length-map}
 use lib.Seq.{length-take-le}
 use borrow.Author.Tests.{eqb-true, leb-true}
 use Rattle.rules.specs.declared.Answer.{Answer}
 use Rattle.rules.specs.declared.Chain.{Chain}
 use Rattle.rules.specs.declared.State.{State}
-use Rattle.rules.specs.declared.Streamed.{Streamed}
 use Rattle.rules.specs.declared.Fed.the-variants.{Taken, Refused}
 use Rattle.rules.specs.Supply.{Rule}
 use Rattle.rules.specs.Numbers.{largest, longestMessage, allowed, test, first, settled}
-use Rattle.rules.specs.Hash.{Hash, blockBytes, chainWords, digestBytes, allBytes}
+use Rattle.rules.specs.Hash.{Hash, blockBytes, chainWords, digestBytes}
 use Rattle.rules.specs.Standard.{SHA1}
 use Rattle.rules.specs.Sha1.{openWords}
 use Rattle.rules.specs.Hmac.{Masked}
@@ -32,7 +31,7 @@ use Rattle.rules.proofs.Hashes.{Proper}
 use Rattle.rules.proofs.MaskedHmac.{Keeps}
 use Rattle.rules.proofs.Sizes.{Sized, words-size, sha1-size}
 use Rattle.rules.proofs.Tags.{sha1-proper}
-use Rattle.rules.proofs.Streaming.{Started, start-rule, feed-reads, finish-reads, Fed, fed-rule, Tagged, finished-rule}
+use Rattle.rules.proofs.Streaming.{start-rule, feed-reads, finish-reads, fed-rule, finished-rule}
 use Rattle.rules.proofs.Calls.{passed, holds, tells, settled-refused, refused, done}
 use Rattle.rules.proofs.Loops.{chain-length}
 use Rattle.rules.proofs.Tested.{needs, taken, fits}
@@ -115,9 +114,13 @@ module _ (s : State) (have number : ℕ) (q : Answer) where
       let fit = holds _ _ (p .0) in
       let parts = fits (s .n) (s .bytes) (s .finished) fit in
       let few = within (s .n) (parts .0) in
-      let told = tells _ _ q e (fit-taken s fit) in
-      (few .0, few .1, parts .1, eqb-true tag 20 (holds _ _ (p .1 .0)),
-      rw (zero-add, told) (leb-true _ _ (holds _ _ (p .1 .1 .0))))
+      let told = tells _ _ q e (fit-taken s fit) in (
+        few .0,
+        few .1,
+        parts .1,
+        eqb-true tag 20 (holds _ _ (p .1 .0)),
+        rw (zero-add, told) (leb-true _ _ (holds _ _ (p .1 .1 .0))),
+      )
 
 module _ (s : State) (ws : List ℕ) (q : Answer) (inner : length (map (λ (v : ℕ). v) (s .inner .shares)) ≡ 40)
     (outer : length (map (λ (v : ℕ). v) (s .outer .shares)) ≡ 40) (tail : length (map (λ (v : ℕ). v) (s .tail)) ≡ 64) where

@@ -1,23 +1,22 @@
 -- Streaming over any hash in shares: what a feed makes of a state, that pieces may be joined, and what finish makes.
 use Prim.Native.Nat.{ℕ, zero, suc, _+_, _-_, _*_, _/_, _%_, _≤_, _<_}
-use mathlib.Core.Path.{_≡_, refl, sym, ap, ap₂, _∙_, subst}
-use mathlib.Core.List.{List, [], _∷_, _++_, map, append-assoc, append-nil}
+use mathlib.Core.Path.{_≡_, refl, sym, ap, _∙_}
+use mathlib.Core.List.{List, [], _++_, map, append-assoc, append-nil}
 use native.Mathlib.Nat.{zero-add, add-zero, suc-add, suc-mul, zero-mul, add-mul}
 use native.Mathlib.Omega.{arith}
 use lib.Bits.{bitXor}
-use lib.ListN.{length, getD, take, drop, replicate, length-append, length-drop, length-replicate, take-append-drop}
-use lib.Seq.{take-at, drop-at, take-all, drop-drop, drop-append-le, length-take-le}
-use Rattle.rules.specs.declared.Chain.{Chain}
+use lib.ListN.{length, getD, drop, length-append, length-drop}
+use lib.Seq.{take-at, drop-at, drop-drop, drop-append-le}
 use Rattle.rules.specs.declared.State.{State}
 use Rattle.rules.specs.Supply.{Draw, Rule}
 use Rattle.rules.specs.Hash.{Hash, blockBytes, chainWords, wordsOf, ending, blocks as blocksOf}
 use Rattle.rules.specs.Sha1.{publics}
-use Rattle.rules.specs.Hmac.{Masked, everyByte, digestPadding, keyStep, textStep, digestStep, tagOf}
+use Rattle.rules.specs.Hmac.{Masked, everyByte, digestPadding, textStep, digestStep, tagOf}
 use Rattle.rules.specs.Counts.{startDraws, feedDraws, finishDraws}
-use Rattle.rules.specs.Stream.{inUse, waiting, ReadAlike, filled, state, start, fullBlocks, feed, finish}
-use Rattle.rules.proofs.Rule.{give, bind, said, counted, alike}
+use Rattle.rules.specs.Stream.{inUse, waiting, ReadAlike, state, start, fullBlocks, feed, finish}
+use Rattle.rules.proofs.Rule.{give, bind, said, counted}
 use Rattle.rules.proofs.Bytes.{length-words, words-front, words-split}
-use Rattle.rules.proofs.Goods.{Goods, goods-size}
+use Rattle.rules.proofs.Goods.{Goods}
 use Rattle.rules.proofs.Hashes.{Proper}
 use Rattle.rules.proofs.MaskedHmac.{Keeps, publics-of, key-rule, text-rule, digest-rule}
 

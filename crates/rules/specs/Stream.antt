@@ -13,7 +13,7 @@ use Rattle.rules.specs.declared.Streamed.{Streamed}
 use Rattle.rules.specs.declared.Fed.{Fed}
 use Rattle.rules.specs.declared.Fed.the-variants.{Taken, Refused}
 use Rattle.rules.specs.Supply.{Draw, Count, Supply, Sharing}
-use Rattle.rules.specs.Numbers.{longestMessage, allowed, fit, Test, test, settled}
+use Rattle.rules.specs.Numbers.{longestMessage, allowed, fit, test, settled}
 use Rattle.rules.specs.Hash.{Bytes, Hash, blockBytes, chainWords, digestBytes, wordsOf}
 use Rattle.rules.specs.Sha1.{publics}
 use Rattle.rules.specs.Hmac.{Masked, keyStep, textStep, digestStep, tagOf}

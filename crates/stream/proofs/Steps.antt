@@ -1,7 +1,7 @@
 -- The steps of streaming, each made from its parts, and how many words they draw.
-use Prim.Native.Nat.{ℕ, zero, suc, _+_, _-_, _*_, _/_, _%_, _^_, _≤_, _<_}
+use Prim.Native.Nat.{ℕ, suc, _+_, _-_, _*_, _/_, _%_, _^_, _≤_, _<_}
 use mathlib.Core.Path.{_≡_, refl, sym, ap, ap₂, _∙_}
-use mathlib.Core.List.{List, [], _∷_, _++_, map, append-nil}
+use mathlib.Core.List.{List, [], _++_, map, append-nil}
 use native.Mathlib.Omega.{arith}
 use native.Mathlib.Nat.{sub-zero, add-mul}
 use lib.ListN.{length, getD, set, take, drop, replicate, length-append, length-drop, length-map, take-append-drop, List·getD-append}
@@ -15,7 +15,7 @@ use Rattle.rules.specs.Standard.{SHA1, H0}
 use Rattle.rules.specs.Sha1.{publics, openWords, used}
 use Rattle.rules.specs.Hmac.{marked, blocks, digestPadding}
 use Rattle.rules.specs.Stream.{filled, state, start, fullBlocks, feed, finish}
-use Rattle.rules.proofs.Loops.{Run, chain-length, parts-room}
+use Rattle.rules.proofs.Loops.{Run, chain-length}
 use Rattle.rules.proofs.Bytes.{length-words, words-front}
 use Rattle.rules.proofs.Hashes.{ending-front, ending-blocks}
 use Rattle.rules.proofs.Tags.{sha1-proper}

@@ -1,6 +1,6 @@
 // A tag while the message comes in pieces: start, feed and finish, each proved to be its rule, over the steps of crate `hmac`.
 ghost use mathlib.Core.Path.{_≡_};
-ghost use mathlib.Core.List.{[], _∷_, _++_};
+ghost use mathlib.Core.List.{[], _++_};
 ghost use Prim.Native.Nat.{_+_, _*_, _/_, _%_, _≤_, _<_};
 ghost use lib.ListN.{length, getD, take, drop};
 ghost use Rattle.rules.specs.Numbers.{largest, longestMessage};
@@ -40,10 +40,13 @@ fn cleared(n: usize, chain: Chain) -> Chain
 fn state_of(n: usize, bytes: usize, inner: Chain, outer: Chain, tail: [u8; BLOCK_BYTES]) -> State
     requires { ⌜ n ≤ largest ⌝ }
     ensures { λ r. ⌜ r ≡ record {
-        n = n; bytes = bytes; finished = 0;
-        inner = record { shares = filled 40 (used n (inner .shares)) };
-        outer = record { shares = filled 40 (used n (outer .shares)) };
-        tail = tail } ⌝ }
+      n = n;
+      bytes = bytes;
+      finished = 0;
+      inner = record { shares = filled 40 (used n (inner .shares)) };
+      outer = record { shares = filled 40 (used n (outer .shares)) };
+      tail = tail;
+    } ⌝ }
 {
     State {
         n: n,
@@ -59,7 +62,9 @@ fn state_of(n: usize, bytes: usize, inner: Chain, outer: Chain, tail: [u8; BLOCK
 pub fn zeros() -> State
     ensures { λ r. ⌜ r ≡ state 0 0 [] [] [] ⌝ }
 {
-    let none = Chain { shares: [0u32; CHAIN] };
+    let none = Chain {
+        shares: [0u32; CHAIN],
+    };
     state_of(0, 0, none, none, [0u8; BLOCK_BYTES])
 }
 

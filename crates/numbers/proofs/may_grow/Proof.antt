@@ -2,7 +2,6 @@
 use native.Mathlib.Omega.{arith}
 use Rattle.rules.specs.Numbers.{longestMessage}
 use Rattle.numbers.proofs.Tests.{grown, not-grown}
-use borrow.Author.Needs.{needs}
 use Rattle.numbers.proofs.may_grow.Statement.{statement}
 use Rattle.numbers.proofs.may_grow.Tie as tie
 

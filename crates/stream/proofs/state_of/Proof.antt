@@ -1,6 +1,5 @@
 -- both chains with 0 in their unused words
 use borrow.Author.Needs.{needs}
-use mathlib.Core.Path.{refl}
 use Rattle.stream.proofs.state_of.Statement.{statement}
 use Rattle.stream.proofs.state_of.Tie as tie
 
