@@ -37,7 +37,8 @@ use Rattle.rules.proofs.AtCalls.{some, add-count, expand-law, and-law, add-law,
 use Rattle.rules.proofs.AtCalls.{there-back, back-there, splitKey-law, hmacTag-law, tags, xor-off}
 use Rattle.rules.proofs.AtCalls.{compress-outcome, compress-drawn, compress-past, compress-opens-to}
 use Rattle.rules.proofs.AtStreams.{start-outcome, start-count, start-past, feed-outcome, feed-count, feed-past}
-use Rattle.rules.proofs.AtStreams.{finish-outcome, finish-count, finish-past, sha1-cuts, sha1-words, streamed-tag, one-call-tag}
+use Rattle.rules.proofs.AtStreams.{finish-outcome, finish-count, finish-past, sha1-cuts, sha1-words, streamed-tag}
+use Rattle.rules.proofs.AtStreams.{one-call-tag}
 use Rattle.rules.proofs.Openings.{opened-lt}
 use Rattle.rules.proofs.Pairs.{refresh-rule}
 use Rattle.rules.proofs.Addition.{add-rule, split-rule}
@@ -103,7 +104,8 @@ calls-follow n =
 
 -- An opening gives 0, 1 or 2: the XOR of the shares, or their sum modulo 2^32; refused, the word 0.
 pub open-xor-settles : (n : ℕ) (x : List ℕ)
-    → (let o = openXorCall n x in Settles (Given (Allowed n) (length x ≡ n) None None None) (o .number) (opened x) 0 (o .word))
+    → (let o = openXorCall n x in Settles (Given (Allowed n) (length x ≡ n) None None None) (o .number) (opened x) 0
+    (o .word))
 open-xor-settles n x = open-settles n x (opened x)
 
 pub open-sum-settles : (n : ℕ) (a : List ℕ)
@@ -241,12 +243,13 @@ module _ (n : ℕ) (key ws : List ℕ) where
   start-draws = start-count n key ws
 
   pub start-past-draws : started .number ≡ 0 → (vs : List ℕ)
-      → take (2 * (5220 * (n * (n - 1)))) ws ≡ take (2 * (5220 * (n * (n - 1)))) vs → started ≡ startCall (sha1 32) n key vs
+      → take (2 * (5220 * (n * (n - 1)))) ws ≡ take (2 * (5220 * (n * (n - 1)))) vs → started
+      ≡ startCall (sha1 32) n key vs
   start-past-draws = start-past n key ws
 
 -- Feed and finish, on any state at all. (That its chains have 40 words and its tail 64 bytes is its type's.) Number 6
--- comes before all others. Refused, the state is as given. What is not read of the state, and the supply after the words
--- drawn, has no influence.
+-- comes before all others. Refused, the state is as given. What is not read of the state, and the supply after the
+-- words drawn, has no influence.
 module _ (s : State) (whole : Whole s) (ws : List ℕ) where
   module _ (piece : List ℕ) where
     abbrev fed : Streamed
@@ -277,8 +280,10 @@ module _ (s : State) (whole : Whole s) (ws : List ℕ) where
 
     -- accepted, only the finished mark is set
     pub finish-settles : (let made = finish (sha1 32) s ws 0 in
-        Settles {A = State × List ℕ × ℕ} (Asks (Fit s) 6 (Asks (length came ≡ 20) 3 (Asks (finishDraws ≤ length ws) 5 Done)))
-        (finished .0 .number) (closed s, made .0, made .1) (s, came, 0) (finished .0 .state, finished .1, finished .0 .drawn))
+        Settles {A = State × List ℕ × ℕ}
+        (Asks (Fit s) 6 (Asks (length came ≡ 20) 3 (Asks (finishDraws ≤ length ws) 5 Done)))
+        (finished .0 .number) (closed s, made .0, made .1) (s, came, 0)
+        (finished .0 .state, finished .1, finished .0 .drawn))
     finish-settles = finish-outcome s whole ws came
 
     pub finish-draws : finished .0 .number ≡ 0 → finished .0 .drawn ≡ finishDraws
@@ -294,8 +299,8 @@ pub asks-exactly : {A B C : Type 0} {a b c i j : ℕ}
     → Asks A a (Asks B b (Asks C c Done)) i → Asks A a (Asks B b (Asks C c Done)) j → i ≡ j
 asks-exactly = only (only (only done-only))
 
--- Any cutting, at every width: two lists of pieces with the same bytes joined, each piece with a supply of its own, none
--- refused, and the words drawn the same when joined in order, end in the same state, hence in the same tag.
+-- Any cutting, at every width: two lists of pieces with the same bytes joined, each piece with a supply of its own,
+-- none refused, and the words drawn the same when joined in order, end in the same state, hence in the same tag.
 module _ (k : ℕ) (wide : 0 < k) (n : ℕ) (key ws : List ℕ) (accepted : startCall (sha1 k) n key ws .number ≡ 0) where
   abbrev s₀ : State
   s₀ = startCall (sha1 k) n key ws .state
@@ -303,7 +308,8 @@ module _ (k : ℕ) (wide : 0 < k) (n : ℕ) (key ws : List ℕ) (accepted : star
   pub any-cutting : (fs gs : Feeds) → Accepted (sha1 k) s₀ fs → Accepted (sha1 k) s₀ gs
       → message fs ≡ message gs → drawn (sha1 k) s₀ fs ≡ drawn (sha1 k) s₀ gs
       → (after (sha1 k) s₀ fs ≡ after (sha1 k) s₀ gs)
-      × ((came vs : List ℕ) → finishCall (sha1 k) (after (sha1 k) s₀ fs) came vs ≡ finishCall (sha1 k) (after (sha1 k) s₀ gs) came vs)
+      × ((came vs : List ℕ) → finishCall (sha1 k) (after (sha1 k) s₀ fs) came vs
+      ≡ finishCall (sha1 k) (after (sha1 k) s₀ gs) came vs)
   any-cutting fs gs f g bytes words =
       let same = sha1-cuts k wide n key ws accepted fs gs f g bytes words in
       (same, λ came vs. ap (λ s. finishCall (sha1 k) s came vs) same)
@@ -317,7 +323,8 @@ module _ (k : ℕ) (wide : 0 < k) (n : ℕ) (key ws : List ℕ) (accepted : star
 
 -- The tag: RFC 2104's of the opened key and the joined pieces, whatever the words are; so it is the one-call tag.
 module _ (n : ℕ) (key ws : List ℕ) (words : Words 32 key) (accepted : startCall (sha1 32) n key ws .number ≡ 0)
-    (fs : Feeds) (bytes : Words 8 (message fs)) (taken : Accepted (sha1 32) (startCall (sha1 32) n key ws .state) fs) where
+    (fs : Feeds) (bytes : Words 8 (message fs))
+    (taken : Accepted (sha1 32) (startCall (sha1 32) n key ws .state) fs) where
   abbrev last : List ℕ → List ℕ → Streamed × List ℕ
   last came vs = finishCall (sha1 32) (after (sha1 32) (startCall (sha1 32) n key ws .state) fs) came vs
 

@@ -147,7 +147,8 @@ module _ (n : ℕ) (each : Answer) (e : query (test 1 (allowed n) ∷ []) (compr
   pub compress-below : each .drawn ≤ most
   compress-below =
       rw (ap (λ (q : Answer). q .drawn) e) at
-      (told-below (compressDraws 32) n most (at 1 (omega arith)) (at 2 (omega arith)) (at 4 (omega arith)) (at 8 (omega arith)))
+      (told-below (compressDraws 32) n most (at 1 (omega arith)) (at 2 (omega arith)) (at 4 (omega arith))
+      (at 8 (omega arith)))
     where
       at : (n : ℕ) → 5220 * (n * (n - 1)) ≤ most → compressDraws 32 n ≤ most
       at n h = rw (compress-count n) h

@@ -1,4 +1,5 @@
--- Runs of the streaming calls from an accepted start: any cutting, the count, and the tag. crates/claims takes them to SHA-1.
+-- Runs of the streaming calls from an accepted start: any cutting, the count, and the tag; and what the three calls
+-- come to on any state. crates/claims has them of SHA-1.
 use Prim.Native.Nat.{ℕ, _+_, _-_, _*_, _/_, _%_, _^_, _≤_, _<_}
 use mathlib.Core.Path.{_≡_, refl, sym, ap, _∙_}
 use mathlib.Core.Bool.{true}
@@ -21,7 +22,8 @@ use Rattle.rules.specs.Hmac.{Masked}
 use Rattle.rules.specs.Counts.{startDraws, compressions, addDraws, sha1}
 use Rattle.rules.specs.Shares.{add}
 use Rattle.rules.specs.Calls.{call, hmacCall}
-use Rattle.rules.specs.Stream.{Feeds, isFit, state, start, feed, finish, streamed, startCall, feedCall, finishCall, closed, ReadAlike, message, after, drawn, Accepted}
+use Rattle.rules.specs.Stream.{Feeds, isFit, state, start, feed, finish, streamed, startCall, feedCall}
+use Rattle.rules.specs.Stream.{finishCall, closed, ReadAlike, message, after, drawn, Accepted}
 use Rattle.rules.specs.Outcome.{Allowed, Fit, Whole, Asks, Done, Settles}
 use Rattle.rules.proofs.Rule.{said, counted}
 use Rattle.rules.proofs.Allowed.{within}
@@ -36,7 +38,8 @@ use Rattle.rules.proofs.Outcomes.{says-count, says-eq, says-le, says-fi
 use Rattle.rules.proofs.Outcomes.{settles, settled-three, call-settles, call-draws, call-past}
 use Rattle.rules.proofs.Opens.{Masks, masks, sha1-opens}
 use Rattle.rules.proofs.Streaming.{Readable, start-rule, feed-alike, finish-alike}
-use Rattle.rules.proofs.Runs.{Clean, holds-none, holds-run, tag-rule, any-cutting, run-counts, run-clean, finish-counts}
+use Rattle.rules.proofs.Runs.{Clean, holds-none, holds-run, tag-rule, any-cutting, run-counts, run-clean}
+use Rattle.rules.proofs.Runs.{finish-counts}
 use Rattle.rules.proofs.Runs.{finished-tag, finished-drawn}
 use Rattle.rules.proofs.Calls.{passed, holds}
 use Rattle.rules.proofs.AtCalls.{words-opened}
@@ -69,7 +72,8 @@ module _ (M : Masked) (proper : Proper (M .standard)) (sixty-four : blockBytes (
   begun : Clean M n some (sizes n some) sixty-four s
   begun =
       let keeps = sizes n some in
-      let g = start-rule keeps proper some (words-size M n some keeps 16 key (start-asked M n key ws ok .1)) .makes ws 0 in
+      let g = start-rule keeps proper some
+      (words-size M n some keeps 16 key (start-asked M n key ws ok .1)) .makes ws 0 in
       record {
         bytes = 0;
         inner = g .inner;
@@ -90,14 +94,16 @@ module _ (M : Masked) (proper : Proper (M .standard)) (sixty-four : blockBytes (
   start-place : start M n key ws 0 .1 ≡ startDraws M n
   start-place =
       let keeps = sizes n some in
-      start-rule keeps proper some (words-size M n some keeps 16 key (start-asked M n key ws ok .1)) .place ws 0 ∙ zero-add _
+      start-rule keeps proper some (words-size M n some keeps 16 key (start-asked M n key ws ok .1)) .place ws 0
+      ∙ zero-add _
 
   pub cut-anyhow : (fs gs : Feeds) → Accepted M s fs → Accepted M s gs → message fs ≡ message gs
       → drawn M s fs ≡ drawn M s gs → after M s fs ≡ after M s gs
   cut-anyhow = any-cutting M n some (sizes n some) sixty-four s begun
 
   -- the words of start, of the feeds and of finish: those of all compressions of the message
-  pub all-words : (fs : Feeds) → Accepted M s fs → (came vs : List ℕ) → (let o = finishCall M (after M s fs) came vs .0 in
+  pub all-words : (fs : Feeds) → Accepted M s fs → (came vs : List ℕ)
+      → (let o = finishCall M (after M s fs) came vs .0 in
       o .number ≡ 0
       → startCall M n key ws .drawn + length (drawn M s fs) + o .drawn
       ≡ compressions (M .standard) (length (message fs)) * M .draws n)
@@ -109,7 +115,8 @@ module _ (M : Masked) (proper : Proper (M .standard)) (sixty-four : blockBytes (
       let c = M .standard .lengthBytes in
       let fed = run-counts M n some keeps sixty-four fs s begun taken in
       let none : s .bytes ≡ 0 = begin-bytes in
-      let last = finish-counts M n some keeps sixty-four proper end (run-clean M n some keeps sixty-four fs s begun taken) in
+      let last = finish-counts M n some keeps sixty-four proper end
+      (run-clean M n some keeps sixty-four fs s begun taken) in
       let sum : 2 + (0 % 64 + L) / 64 + ((L % 64 + c) / 64 + 2) ≡ (L + c) / 64 + 4 = omega arith in
       let started = start-drawn M n key ws ok ∙ start-place in
       let middle : length (drawn M s fs) ≡ (0 % 64 + L) / 64 * d = fed .0 ∙ rw (none, sixty-four) in
@@ -121,8 +128,10 @@ module _ (M : Masked) (proper : Proper (M .standard)) (sixty-four : blockBytes (
       (sym (add-mul (2 + x) w d ∙ ap (λ t. t + w * d) (add-mul 2 x d)) ∙ ap (λ t. t * d) sum)
 
 -- ---- opened: the tag of a run is the standard's, from shares that open to the padded key
-module _ (M : Masked) (proper : Proper (M .standard)) (chains : Chains (M .standard)) (sixty-four : blockBytes (M .standard) ≡ 64)
-    (opens : (n : ℕ) → 0 < n → Keeps M n (λ v. v < 2 ^ (8 * M .standard .wordBytes)) (Masks (8 * M .standard .wordBytes) n))
+module _ (M : Masked) (proper : Proper (M .standard)) (chains : Chains (M .standard))
+    (sixty-four : blockBytes (M .standard) ≡ 64)
+    (opens : (n : ℕ) → 0 < n → Keeps M n (λ v. v < 2 ^ (8 * M .standard .wordBytes))
+    (Masks (8 * M .standard .wordBytes) n))
     (n : ℕ) (shares ws : List ℕ) (ok : startCall M n shares ws .number ≡ 0) where
   abbrev H : Hash
   H = M .standard
@@ -141,7 +150,8 @@ module _ (M : Masked) (proper : Proper (M .standard)) (chains : Chains (M .stand
   run-tag key short keys shared fs bytes taken came vs done =
       let keeps = opens n some-shares in
       let KEY = wordsOf (H .wordBytes) 16 (keyBlock H key) in
-      let small : Words k KEY = bytes-are-words (H .wordBytes) 16 (keyBlock H key) (key-bytes H proper key [] short keys) in
+      let small : Words k KEY = bytes-are-words (H .wordBytes) 16 (keyBlock H key)
+      (key-bytes H proper key [] short keys) in
       let good : Goods (Masks k n) 16 shares KEY =
       rw shared at (masks k n 16 shares (start-asked M n shares ws ok .1) (rw shared small)) in
       let g = start-rule keeps proper some-shares good .makes ws 0 in
@@ -223,7 +233,8 @@ module _ (n : ℕ) (key text : List ℕ) (words : Words 32 key) (bytes : Words 8
       let size = eqb-true (length key) (16 * n) (holds _ _ (p .1 .0)) in
       let k = key-opens n key words in
       rw ok
-      (hmacTag-is (sha1 32) n some (sha1-proper 32) sha1-chains (sha1-opening n some) K text key us 0 short-key (k .1) bytes size
+      (hmacTag-is (sha1 32) n some (sha1-proper 32) sha1-chains (sha1-opening n some) K text key us 0 short-key
+      (k .1) bytes size
       (k .2))
 
 -- ==== SHA-1: what the calls come to, on any state that has its type's sizes
@@ -279,7 +290,8 @@ module _ (s : State) (whole : Whole s) (ws : List ℕ) where
     abbrev feed-words : ℕ
     feed-words = (s .bytes % 64 + length piece) / 64 * d (s .n)
 
-    feed-law : Fit s → s .bytes + length piece ≤ longestMessage → Rule feed-words (λ t. Unit {0}) (feed (sha1 32) s piece)
+    feed-law : Fit s → s .bytes + length piece ≤ longestMessage
+        → Rule feed-words (λ t. Unit {0}) (feed (sha1 32) s piece)
     feed-law fit short =
         counted (feed-sized (sha1 32) s (fit-some fit) (sha1-size (s .n) (fit-some fit)) refl (fit-few fit) whole piece)
         (ap (λ t. (s .bytes % 64 + length piece) / 64 * t) (compress-count (s .n)))
@@ -320,11 +332,13 @@ module _ (s : State) (whole : Whole s) (ws : List ℕ) where
     finish-law : Fit s → length came ≡ 20 → Rule finish-words (λ t. length t ≡ 20) (finish (sha1 32) s)
     finish-law fit size =
         counted
-        (finish-sized (sha1 32) s (fit-some fit) (sha1-size (s .n) (fit-some fit)) refl (fit-few fit) whole (sha1-proper 32))
+        (finish-sized (sha1 32) s (fit-some fit) (sha1-size (s .n) (fit-some fit)) refl (fit-few fit) whole
+        (sha1-proper 32))
         (ap (λ t. ((s .bytes % 64 + 8) / 64 + 2) * t) (compress-count (s .n)))
 
     pub finish-outcome : (let made = finish (sha1 32) s ws 0 in
-        Settles {A = State × List ℕ × ℕ} (Asks (Fit s) 6 (Asks (length came ≡ 20) 3 (Asks (finish-words ≤ length ws) 5 Done)))
+        Settles {A = State × List ℕ × ℕ}
+        (Asks (Fit s) 6 (Asks (length came ≡ 20) 3 (Asks (finish-words ≤ length ws) 5 Done)))
         (ends .0 .number) (closed s, made .0, made .1) (s, came, 0) (ends .0 .state, ends .1, ends .0 .drawn))
     unfolding finishCall call
     finish-outcome =

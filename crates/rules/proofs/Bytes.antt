@@ -34,7 +34,8 @@ bytes-are-bytes (suc m) v (suc i) = bytes-are-bytes m v i
 pub all-bytes-are-bytes : (size : ℕ) (s : List ℕ) → Words 8 (allBytes size s)
 unfolding allBytes
 all-bytes-are-bytes size [] = λ i. lit< tt
-all-bytes-are-bytes size (w ∷ s) = words-join 8 (bytesOf size w) (allBytes size s) (bytes-are-bytes size w) (all-bytes-are-bytes size s)
+all-bytes-are-bytes size (w ∷ s) =
+    words-join 8 (bytesOf size w) (allBytes size s) (bytes-are-bytes size w) (all-bytes-are-bytes size s)
 
 pub padding-is-bytes : (H : Hash) (l : ℕ) → Words 8 (padding H l)
 unfolding padding
@@ -84,7 +85,8 @@ number-append zero x y h = refl
 number-append (suc m) x y h =
     ap₂ (λ a b. a * 256 + b) (number-append m x y (omega arith)) (List·getD-append x y 0 m (omega arith))
 
-pub words-split : (size m p : ℕ) (x : List ℕ) → wordsOf size (m + p) x ≡ wordsOf size m x ++ wordsOf size p (drop (m * size) x)
+pub words-split : (size m p : ℕ) (x : List ℕ) → wordsOf size (m + p) x
+    ≡ wordsOf size m x ++ wordsOf size p (drop (m * size) x)
 unfolding wordsOf
 words-split size zero p x = rw (zero-add, zero-mul size)
 words-split size (suc m) p x =
@@ -92,7 +94,8 @@ words-split size (suc m) p x =
     rw (suc-add m p)
     (ap (λ (t : List ℕ). numberOf size x ∷ t)
     (words-split size m p (drop size x)
-    ∙ ap (λ t. wordsOf size m (drop size x) ++ wordsOf size p t) (drop-drop (m * size) size x ∙ ap (λ t. drop t x) place)))
+    ∙ ap (λ t. wordsOf size m (drop size x) ++ wordsOf size p t)
+    (drop-drop (m * size) size x ∙ ap (λ t. drop t x) place)))
 
 -- words read no bytes past their own
 pub words-front : (size m : ℕ) (x y : List ℕ) → m * size ≤ length x → wordsOf size m (x ++ y) ≡ wordsOf size m x

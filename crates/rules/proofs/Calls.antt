@@ -73,7 +73,8 @@ module _ {S : Type 0} (tests : List Test) (rule : Draw S) (came : S) (ws : List 
   unfolding call
   refused h e = rw (own, settled-refused number (rule ws 0 .1) 0 h, settled-refused number (rule ws 0 .0) came h, e)
 
-  pub done : number ≡ 0 → (after : S) (drawn : ℕ) → rule ws 0 ≡ (after, drawn) → answer ≡ record { number = 0; drawn = drawn }
+  pub done : number ≡ 0 → (after : S) (drawn : ℕ) → rule ws 0 ≡ (after, drawn) → answer
+      ≡ record { number = 0; drawn = drawn }
       → call tests rule came ws ≡ (answer, after)
   unfolding call
   done h after drawn e f = rw (own, h, e, f)

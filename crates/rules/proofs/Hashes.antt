@@ -114,7 +114,8 @@ module _ (H : Hash) (proper : Proper H) where
       let rest : m * 16 ≤ length (drop 16 x) = rw (length-drop 16 x) (omega (arith, suc-mul m 16)) in
       rw (take-append-le 16 x y one, drop-append-le 16 x y one) (blocks-front m (drop 16 x) y _ rest)
 
-  pub blocks-joined : (m p : ℕ) (x y h : List ℕ) → length x ≡ m * 16 → blocks H (m + p) (x ++ y) h ≡ blocks H p y (blocks H m x h)
+  pub blocks-joined : (m p : ℕ) (x y h : List ℕ) → length x ≡ m * 16 → blocks H (m + p) (x ++ y) h
+      ≡ blocks H p y (blocks H m x h)
   blocks-joined m p x y h l =
       blocks-append m p (x ++ y) h
       ∙ ap₂ (λ t u. blocks H p t u) (drop-at x y (m * 16) l) (blocks-front m x y h (omega arith))
@@ -145,7 +146,8 @@ module _ (H : Hash) (proper : Proper H) where
   module _ (x y : List ℕ) (block : length x ≡ B) where
     front-words : ending H 0 (x ++ y) ≡ wordsOf size 16 x ++ ending H B y
     front-words =
-        ending-front 1 0 x y (block ∙ one-block) ∙ ap (λ t. wordsOf size 16 x ++ ending H t y) (zero-add (1 * B) ∙ sym one-block)
+        ending-front 1 0 x y (block ∙ one-block)
+        ∙ ap (λ t. wordsOf size 16 x ++ ending H t y) (zero-add (1 * B) ∙ sym one-block)
 
     pub digest-front : (W : List ℕ) → W ≡ ending H B y
         → digest H (x ++ y) ≡ allBytes size (blocks H (length W / 16) W (H .compress (H .start) (wordsOf size 16 x)))

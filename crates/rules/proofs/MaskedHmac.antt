@@ -11,7 +11,8 @@ use lib.Seq.{set-append-left, getD-append-add}
 use Rattle.rules.specs.Supply.{Rule, Shares}
 use Rattle.rules.specs.Hash.{Hash, blockBytes, chainWords, ending, blocks as blocksOf}
 use Rattle.rules.specs.Sha1.{public, publics}
-use Rattle.rules.specs.Hmac.{Masked, splits, marked, everyByte, blocks, digestPadding, keyStep, textStep, digestStep, hmacShares}
+use Rattle.rules.specs.Hmac.{Masked, splits, marked, everyByte, blocks, digestPadding, keyStep, textStep}
+use Rattle.rules.specs.Hmac.{digestStep, hmacShares}
 use Rattle.rules.specs.Counts.{compressions}
 use Rattle.rules.proofs.Rule.{give, bind, counted}
 use Rattle.rules.proofs.Addition.{split-rule}
@@ -61,7 +62,8 @@ module _ {M : Masked} {n : ℕ} {Fits : ℕ → Type 0} {Good : List ℕ → ℕ
       (rw (← marked-later v m 0 y s (keeps .size y (bitXor X v) first)) at (more first (marked-of v h l gs)))
 
   -- ---- public words
-  pub publics-of : (m : ℕ) (s : List ℕ) → length s ≡ m → ((i : ℕ) → i < m → Fits (getD s i 0)) → Goods Good m (publics n s) s
+  pub publics-of : (m : ℕ) (s : List ℕ) → length s ≡ m → ((i : ℕ) → i < m → Fits (getD s i 0))
+      → Goods Good m (publics n s) s
   unfolding publics
   publics-of zero [] l h = none
   publics-of zero (a ∷ s) l h = absurd (omega arith)
@@ -88,23 +90,29 @@ module _ {M : Masked} {n : ℕ} {Fits : ℕ → Type 0} {Good : List ℕ → ℕ
     fits-every b h = keeps .fits _ (every-lt b (H .wordBytes) h)
 
     pub key-rule : {key KEY : List ℕ} (b : ℕ) → b < 256 → Goods Good 16 key KEY
-        → Rule (M .draws n) (λ z. Goods Good c z (H .compress (H .start) (map (λ w. bitXor w (everyByte H b)) KEY))) (keyStep M n b key)
+        → Rule (M .draws n) (λ z. Goods Good c z (H .compress (H .start) (map (λ w. bitXor w (everyByte H b)) KEY)))
+        (keyStep M n b key)
     key-rule b h g =
-        keeps .compresses (publics-of c (H .start) refl (keeps .starts)) (marked-of (everyByte H b) some (fits-every b h) g)
+        keeps .compresses (publics-of c (H .start) refl (keeps .starts))
+        (marked-of (everyByte H b) some (fits-every b h) g)
 
     pub text-rule : {h C : List ℕ} (m before : ℕ) → before ≡ m * blockBytes H → (text : List ℕ)
         → ((i : ℕ) → Fits (getD (ending H before text) i 0)) → Goods Good c h C
         → Rule (((length text + H .lengthBytes) / blockBytes H + 1) * M .draws n)
-        (λ z. Goods Good c z (let W = ending H before text in blocksOf H (length W / 16) W C)) (textStep M n before text h)
+        (λ z. Goods Good c z (let W = ending H before text in blocksOf H (length W / 16) W C))
+        (textStep M n before text h)
     text-rule m before after text u g =
         let W = ending H before text in
-        let shown = publics-of (length W / 16 * 16) W (omega (arith, ending-length H proper m before after text)) (λ i b. u i) in
-        counted (blocks-rule (length W / 16) shown g) (ap (λ t. t * M .draws n) (ending-blocks H proper m before after text))
+        let shown = publics-of (length W / 16 * 16) W (omega (arith, ending-length H proper m before after text))
+        (λ i b. u i) in
+        counted (blocks-rule (length W / 16) shown g)
+        (ap (λ t. t * M .draws n) (ending-blocks H proper m before after text))
 
     pub digest-rule : {i I o O : List ℕ} → Goods Good c i I → Goods Good c o O
         → Rule (M .draws n) (λ z. Goods Good c z (H .compress O (I ++ digestPadding H))) (digestStep M n i o)
     digest-rule gi go =
-        let last = publics-of (16 - c) (digestPadding H) (length-words (H .wordBytes) (16 - c) _) (λ i b. fits-digest i) in
+        let last = publics-of (16 - c) (digestPadding H) (length-words (H .wordBytes) (16 - c) _)
+        (λ i b. fits-digest i) in
         keeps .compresses go (sixteen (join gi last))
       where
         sixteen : {s S : List ℕ} → Goods Good (c + (16 - c)) s S → Goods Good 16 s S

@@ -150,7 +150,8 @@ module _ {S : Type 0} {d : ℕ} {P : S → Type 0} {rule : Draw S} (law : Rule d
     as-long = omega (arith, length-take d vs, ap length same, length-take-le d ws enough)
 
 -- ---- a call of two tests, whichever they are, and the supply
-module _ {S A B : Type 0} {a b : Bool} (i j d : ℕ) {P : S → Type 0} (rule : Draw S) (says-a : Says A a) (says-b : Says B b)
+module _ {S A B : Type 0} {a b : Bool} (i j d : ℕ) {P : S → Type 0} (rule : Draw S) (says-a : Says A a)
+    (says-b : Says B b)
     (law : A → B → Rule d P rule) (came : S) (ws : List ℕ) where
   abbrev tests : List Test
   tests = test (suc i) a ∷ test (suc j) b ∷ []
@@ -280,14 +281,16 @@ module _ {n size d k : ℕ} {Input Text : Type 0} {rule : Draw (List ℕ)} {f : 
 
 -- ---- openings and records
 pub open-settles : (n : ℕ) (x : List ℕ) (word : ℕ)
-    → (let o = openCall n x word in Settles (Given (Allowed n) (length x ≡ n) None None None) (o .number) word 0 (o .word))
+    → (let o = openCall n x word in Settles (Given (Allowed n) (length x ≡ n) None None None) (o .number) word 0
+    (o .word))
 unfolding first test
 open-settles n x word =
     settles (openCall n x word .number) word 0 _
     (given (says-count n) (says-eq (length x) n) untested untested (λ c i o t. untested)) refl
 
 pub record-settles : (size : ℕ) (steps came : List ℕ)
-    → (let o = recordCall size steps came in Settles (Given None None (length came ≡ size) None None) (o .0) steps came (o .1))
+    → (let o = recordCall size steps came in Settles (Given None None (length came ≡ size) None None) (o .0) steps came
+    (o .1))
 unfolding first test
 record-settles size steps came =
     settles (recordCall size steps came .0) steps came _

@@ -15,7 +15,8 @@ use Rattle.rules.specs.Hash.{Hash, blockBytes, chainWords, wordsOf, endi
 use Rattle.rules.specs.Hmac.{Masked, everyByte, tagOf}
 use Rattle.rules.specs.Counts.{feedDraws, finishDraws}
 use Rattle.rules.specs.Calls.{call}
-use Rattle.rules.specs.Stream.{Feeds, state, fullBlocks, feed, finish, feedCall, finishCall, message, after, drawn, Accepted}
+use Rattle.rules.specs.Stream.{Feeds, state, fullBlocks, feed, finish, feedCall, finishCall, message, after}
+use Rattle.rules.specs.Stream.{drawn, Accepted}
 use Rattle.rules.proofs.Rule.{said, counted, alike}
 use Rattle.rules.proofs.Bytes.{length-words, words-join, words-front, words-split}
 use Rattle.rules.proofs.Conversion.{words-take, words-drop}
@@ -23,7 +24,9 @@ use Rattle.rules.proofs.Hashes.{Proper, blocks-joined, last-blocks, hma
 use Rattle.rules.proofs.Goods.{Goods, goods-size}
 use Rattle.rules.proofs.MaskedHmac.{Keeps}
 use Rattle.rules.proofs.Sizes.{Sized, words-size}
-use Rattle.rules.proofs.Streaming.{Readable, left-over, whole-part, full-rule, dropped, counted-so, ends-so, Made, made-fed, made-finished, fed-rule, finished-rule, fedFrom, nothing, joined, rest-size}
+use Rattle.rules.proofs.Streaming.{Readable, left-over, whole-part, full-rule, dropped, counted-so, ends-so}
+use Rattle.rules.proofs.Streaming.{Made, made-fed, made-finished, fed-rule, finished-rule, fedFrom, nothing}
+use Rattle.rules.proofs.Streaming.{joined, rest-size}
 use Rattle.rules.proofs.Calls.{passed, holds}
 
 -- ---- words drawn, and words after them
@@ -82,7 +85,8 @@ module _ (M : Masked) (n : ℕ) (some : 0 < n) (keeps : Keeps M n (λ v. Unit {0
     after-piece =
         alike (made-fed M n bytes inner outer waits made piece)
         (said
-        (fed-rule keeps bytes waits (made .waits-size) (words-size M n some keeps (chainWords H) inner (made .inner-size)) outer piece
+        (fed-rule keeps bytes waits (made .waits-size)
+        (words-size M n some keeps (chainWords H) inner (made .inner-size)) outer piece
         (λ j i. tt))
         refl
         (λ t f. record {
@@ -105,7 +109,8 @@ module _ (M : Masked) (n : ℕ) (some : 0 < n) (keeps : Keeps M n (λ v. Unit {0
         let first = waits ++ piece in
         let many = length first / blockBytes H in
         let r = fullBlocks M n many first inner ws at in
-        let sized = full-rule keeps many first (λ j i. tt) (words-size M n some keeps (chainWords H) inner (made .inner-size)) in
+        let sized = full-rule keeps many first (λ j i. tt)
+        (words-size M n some keeps (chainWords H) inner (made .inner-size)) in
         let next : Made M n (bytes + length piece) (r .0) outer (drop (many * blockBytes H) first) =
         record {
           inner-size = goods-size (keeps .size) (sized .makes ws at);
@@ -115,7 +120,8 @@ module _ (M : Masked) (n : ℕ) (some : 0 < n) (keeps : Keeps M n (λ v. Unit {0
         made-fed M n bytes inner outer waits made (piece ++ q) ws at
         ∙ joined M n bytes inner outer waits sixty-four (made .waits-size) piece q ws at
         ∙ sym (made-fed M n (bytes + length piece) (r .0) outer (drop (many * blockBytes H) first) next q ws (r .1))
-        ∙ sym (ap (λ (t : State × ℕ). feed M (t .0) q ws (t .1)) (made-fed M n bytes inner outer waits made piece ws at))
+        ∙ sym (ap (λ (t : State × ℕ). feed M (t .0) q ws (t .1))
+        (made-fed M n bytes inner outer waits made piece ws at))
 
   -- ---- the same of any such state
   module _ (s : State) (clean : Clean s) where
@@ -134,10 +140,12 @@ module _ (M : Masked) (n : ℕ) (some : 0 < n) (keeps : Keeps M n (λ v. Unit {0
     no-piece ws at =
         subst (λ t. feed M t [] ws at ≡ (t, at)) (sym (clean .is))
         (made-fed M n (clean .bytes) (clean .inner) (clean .outer) (clean .waits) (clean .made) [] ws at
-        ∙ nothing M n (clean .bytes) (clean .inner) (clean .outer) (clean .waits) ws at sixty-four (clean .made .waits-size))
+        ∙ nothing M n (clean .bytes) (clean .inner) (clean .outer) (clean .waits) ws at sixty-four
+        (clean .made .waits-size))
 
   -- ---- a run is one piece: the message, fed with the words drawn
-  pub run-is : (fs : Feeds) (s : State) → Clean s → Accepted M s fs → after M s fs ≡ feed M s (message fs) (drawn M s fs) 0 .0
+  pub run-is : (fs : Feeds) (s : State) → Clean s → Accepted M s fs → after M s fs
+      ≡ feed M s (message fs) (drawn M s fs) 0 .0
   unfolding after message drawn Accepted
   run-is [] s clean ok = sym (ap (λ (t : State × ℕ). t .0) (no-piece s clean [] 0))
   run-is (f ∷ fs) s clean ok =
@@ -179,7 +187,8 @@ module _ (M : Masked) (n : ℕ) (some : 0 < n) (keeps : Keeps M n (λ v. Unit {0
   parts : (b p l : ℕ) → feedDraws M n b p + feedDraws M n (b + p) l ≡ feedDraws M n b (p + l)
   parts b p l =
       let e : (b % 64 + p) / 64 + ((b + p) % 64 + l) / 64 ≡ (b % 64 + (p + l)) / 64 = omega arith in
-      rw sixty-four (sym (add-mul ((b % 64 + p) / 64) (((b + p) % 64 + l) / 64) (M .draws n)) ∙ ap (λ t. t * M .draws n) e)
+      rw sixty-four (sym (add-mul ((b % 64 + p) / 64) (((b + p) % 64 + l) / 64) (M .draws n))
+      ∙ ap (λ t. t * M .draws n) e)
 
   pub run-counts : (fs : Feeds) (s : State) → Clean s → Accepted M s fs
       → (length (drawn M s fs) ≡ feedDraws M n (s .bytes) (length (message fs)))
@@ -219,7 +228,8 @@ module _ (M : Masked) (n : ℕ) (some : 0 < n) (keeps : Keeps M n (λ v. Unit {0
       let next = piece-rule s clean (f .0) .makes (f .1) 0 in
       run-clean fs _ (subst Clean (sym (fed-state M s (f .0) (f .1) (ok .0))) next) (ok .1)
 
-  pub finish-counts : Proper (M .standard) → (s : State) → Clean s → Rule (finishDraws M n (s .bytes)) (λ t. Unit {0}) (finish M s)
+  pub finish-counts : Proper (M .standard) → (s : State) → Clean s
+      → Rule (finishDraws M n (s .bytes)) (λ t. Unit {0}) (finish M s)
   finish-counts proper s clean =
       let sized = words-size M n some keeps (chainWords H) in
       let m = clean .made in
@@ -229,7 +239,8 @@ module _ (M : Masked) (n : ℕ) (some : 0 < n) (keeps : Keeps M n (λ v. Unit {0
       ap (λ t. finish M t ws at) (clean .is)
       ∙ made-finished M n (clean .bytes) (clean .inner) (clean .outer) (clean .waits) m ws at)
       (said
-      (finished-rule keeps (clean .bytes) (clean .waits) (m .waits-size) (sized (clean .inner) (m .inner-size)) proper some
+      (finished-rule keeps (clean .bytes) (clean .waits) (m .waits-size)
+      (sized (clean .inner) (m .inner-size)) proper some
       (sized (clean .outer) (m .outer-size)) (λ i. tt))
       refl (λ t f. tt)))
       (ap (finishDraws M n) (clean-bytes s clean))
@@ -256,7 +267,8 @@ module _ {M : Masked} {n : ℕ} {Fits : ℕ → Type 0} {Good : List ℕ → ℕ
     pub inner-good : Goods Good (chainWords S) inner (innerOf text)
     pub outer-good : Goods Good (chainWords S) outer (keyed 0x5c)
 
-  pub holds-none : (s : State) (inner outer : List ℕ) → s ≡ state n 0 inner outer [] → Goods Good (chainWords S) inner (keyed 0x36)
+  pub holds-none : (s : State) (inner outer : List ℕ) → s ≡ state n 0 inner outer []
+      → Goods Good (chainWords S) inner (keyed 0x36)
       → Goods Good (chainWords S) outer (keyed 0x5c) → Holds [] s
   unfolding blocksOf
   holds-none s inner outer is gi go =
@@ -324,14 +336,16 @@ module _ {M : Masked} {n : ℕ} {Fits : ℕ → Type 0} {Good : List ℕ → ℕ
       unfolding all more
       holds-more ws at =
           let h = holds in
-          let f = fed-rule keeps (length text) waits waits-size (h .inner-good) (h .outer) piece readable .makes ws at in
+          let f = fed-rule keeps (length text) waits waits-size (h .inner-good)
+          (h .outer) piece readable .makes ws at in
           let reads : feed M s piece ws at .0 ≡ fedFrom M n (length text) (h .inner) (h .outer) waits piece ws at .0 =
           ap (λ t. feed M t piece ws at .0) (h .is)
           ∙ ap (λ (r : State × ℕ). r .0) (made-fed M n (length text) (h .inner) (h .outer) waits made piece ws at) in
           record {
             inner = f .chain;
             outer = h .outer;
-            is = reads ∙ f .is ∙ ap₂ (λ l t. state n l (f .chain) (h .outer) t) (sym (length-append text piece)) rest-so;
+            is = reads ∙ f .is ∙ ap₂ (λ l t. state n l (f .chain) (h .outer) t)
+                (sym (length-append text piece)) rest-so;
             inner-good = rw chain-so at (f .good);
             outer-good = h .outer-good;
           }
@@ -387,6 +401,7 @@ module _ {M : Masked} {n : ℕ} {Fits : ℕ → Type 0} {Good : List ℕ → ℕ
         let later : Words 8 m = rw (drop-at p m (length p) refl) at (words-drop 8 (length p) (p ++ m) more) in
         let rest = words-drop 8 (length text / B * B) text bytes in
         let readable = reads _ (words-join 8 (drop (length text / B * B) text) p rest one) in
-        let next = subst (Holds (text ++ p)) (sym (fed-state M s p (f .1) (ok .0))) (holds-more text s holds p readable (f .1) 0) in
+        let next = subst (Holds (text ++ p)) (sym (fed-state M s p (f .1) (ok .0)))
+        (holds-more text s holds p readable (f .1) 0) in
         rw (append-assoc text p m) at
         (holds-run fs (text ++ p) _ next (words-join 8 text p bytes one) later (ok .1))

@@ -20,7 +20,8 @@ use Rattle.rules.specs.Standard.{SHA1}
 use Rattle.rules.specs.Sha1.{openWords}
 use Rattle.rules.specs.Hmac.{Masked}
 use Rattle.rules.specs.Counts.{startDraws, feedDraws, finishDraws, sha1}
-use Rattle.rules.specs.Stream.{inUse, waiting, isFit, state, start, feed, finish, startWords, feedWords, finishWords}
+use Rattle.rules.specs.Stream.{inUse, waiting, isFit, state, start, feed, finish, startWords, feedWords}
+use Rattle.rules.specs.Stream.{finishWords}
 use Rattle.rules.specs.Stream.{streamed, startCall, feedCall, fedAnswer, finishCall, closed}
 use Rattle.rules.specs.Outcome.{Whole}
 use Rattle.rules.proofs.Rule.{said, alike}
@@ -51,11 +52,13 @@ module _ (M : Masked) (s : State) (some : 0 < s .n) (keeps : Keeps M (s .n) (λ 
       (length-take-le (chainWords H * s .n) (chain .shares) (omega arith))
 
   module _ (whole : Whole s) where
-    pub feed-sized : (piece : List ℕ) → Rule (feedDraws M (s .n) (s .bytes) (length piece)) (λ t. Unit {0}) (feed M s piece)
+    pub feed-sized : (piece : List ℕ)
+        → Rule (feedDraws M (s .n) (s .bytes) (length piece)) (λ t. Unit {0}) (feed M s piece)
     feed-sized piece =
         alike (feed-reads M s piece)
         (said
-        (fed-rule keeps (s .bytes) (waiting H s) (waits-size (whole .tail-whole)) (in-use (s .inner) (whole .inner-whole))
+        (fed-rule keeps (s .bytes) (waiting H s) (waits-size (whole .tail-whole))
+        (in-use (s .inner) (whole .inner-whole))
         (inUse H s (s .outer)) piece (λ j i. tt))
         refl (λ t f. tt))
 
@@ -63,7 +66,8 @@ module _ (M : Masked) (s : State) (some : 0 < s .n) (keeps : Keeps M (s .n) (λ 
     finish-sized proper =
         alike (finish-reads M s)
         (said
-        (finished-rule keeps (s .bytes) (waiting H s) (waits-size (whole .tail-whole)) (in-use (s .inner) (whole .inner-whole))
+        (finished-rule keeps (s .bytes) (waiting H s) (waits-size (whole .tail-whole))
+        (in-use (s .inner) (whole .inner-whole))
         proper some (in-use (s .outer) (whole .outer-whole)) (λ i. tt))
         refl
         (λ t f.
@@ -87,16 +91,19 @@ fit-taken : (s : State) → isFit s ≡ true → first (test 6 (isFit s) ∷ [])
 unfolding first test
 fit-taken s h = rw h
 
-fit-grown : (s : State) (short : Bool) → isFit s ≡ true → short ≡ true → first (test 6 (isFit s) ∷ test 4 short ∷ []) ≡ 0
+fit-grown : (s : State) (short : Bool) → isFit s ≡ true → short ≡ true → first (test 6 (isFit s) ∷ test 4 short ∷ [])
+    ≡ 0
 unfolding first test
 fit-grown s short h e = rw (h, e)
 
 -- ---- what the callee of a feed and of a finish may ask
 module _ (s : State) (have number : ℕ) (q : Answer) where
   pub feed-ready : (l : ℕ) → feedWords (sha1 32) s l ≡ q
-      → first (test 6 (isFit s) ∷ test 4 (leb (s .bytes + l) longestMessage) ∷ test 5 (leb (q .drawn) have) ∷ []) ≡ number
+      → first (test 6 (isFit s) ∷ test 4 (leb (s .bytes + l) longestMessage) ∷ test 5 (leb (q .drawn) have) ∷ [])
+      ≡ number
       → number ≡ 0
-      → (0 < s .n) × (s .n ≤ largest) × (s .bytes + l ≤ longestMessage) × (0 + feedDraws (sha1 32) (s .n) (s .bytes) l ≤ have)
+      → (0 < s .n) × (s .n ≤ largest) × (s .bytes + l ≤ longestMessage)
+      × (0 + feedDraws (sha1 32) (s .n) (s .bytes) l ≤ have)
   feed-ready l e is z =
       let p = passed _ (is ∙ z) in
       let fit = holds _ _ (p .0) in
@@ -123,7 +130,8 @@ module _ (s : State) (have number : ℕ) (q : Answer) where
       )
 
 module _ (s : State) (ws : List ℕ) (q : Answer) (inner : length (map (λ (v : ℕ). v) (s .inner .shares)) ≡ 40)
-    (outer : length (map (λ (v : ℕ). v) (s .outer .shares)) ≡ 40) (tail : length (map (λ (v : ℕ). v) (s .tail)) ≡ 64) where
+    (outer : length (map (λ (v : ℕ). v) (s .outer .shares)) ≡ 40)
+    (tail : length (map (λ (v : ℕ). v) (s .tail)) ≡ 64) where
   whole : Whole s
   whole =
       record {
@@ -135,7 +143,8 @@ module _ (s : State) (ws : List ℕ) (q : Answer) (inner : length (map (λ (v : 
   few : allowed (s .n) ≡ true → chainWords (SHA1 32) * s .n ≤ 40
   few count = omega (arith, within (s .n) count .1)
 
-  pub feed-needs : (piece : List ℕ) → (let tests = test 6 (isFit s) ∷ test 4 (leb (s .bytes + length piece) longestMessage) ∷ [] in
+  pub feed-needs : (piece : List ℕ)
+      → (let tests = test 6 (isFit s) ∷ test 4 (leb (s .bytes + length piece) longestMessage) ∷ [] in
       first tests ≡ 0 → feedWords (sha1 32) s (length piece) ≡ q → feed (sha1 32) s piece ws 0 .1 ≡ q .drawn)
   feed-needs piece h e =
       let count = fits (s .n) (s .bytes) (s .finished) (holds _ _ (passed _ h .0)) .0 in
@@ -154,7 +163,8 @@ module _ (s : State) (ws : List ℕ) (q : Answer) (inner : length (map (λ (v : 
 
   -- ---- a feed: refused, with the state as it was given, or done
   module _ (piece : List ℕ) (number : ℕ) (e : feedWords (sha1 32) s (length piece) ≡ q)
-      (is : first (test 6 (isFit s) ∷ test 4 (leb (s .bytes + length piece) longestMessage) ∷ test 5 (leb (q .drawn) (length ws)) ∷ [])
+      (is : first (test 6 (isFit s) ∷ test 4 (leb (s .bytes + length piece) longestMessage)
+      ∷ test 5 (leb (q .drawn) (length ws)) ∷ [])
       ≡ number) where
     pub feed-refused : (number ≡ 0 → ⊥) → feedCall (sha1 32) s piece ws ≡ streamed (fedAnswer (Refused number)) s
     unfolding feedCall
@@ -171,7 +181,8 @@ module _ (s : State) (ws : List ℕ) (q : Answer) (inner : length (map (λ (v : 
 
   -- ---- a finish: refused, with the state and the tag's bytes as they came, or done
   module _ (came : List ℕ) (number : ℕ) (e : finishWords (sha1 32) s ≡ q)
-      (is : first (test 6 (isFit s) ∷ test 3 (eqb (length came) 20) ∷ test 5 (leb (q .drawn) (length ws)) ∷ []) ≡ number) where
+      (is : first (test 6 (isFit s) ∷ test 3 (eqb (length came) 20) ∷ test 5 (leb (q .drawn) (length ws)) ∷ [])
+      ≡ number) where
     pub finish-refused : (number ≡ 0 → ⊥)
         → finishCall (sha1 32) s came ws ≡ (record { number = number; drawn = 0; state = s }, came)
     unfolding finishCall
@@ -189,7 +200,8 @@ module _ (s : State) (ws : List ℕ) (q : Answer) (inner : length (map (λ (v : 
 
 -- ---- a start: refused, with a state of zeros, or done
 module _ (n : ℕ) (key ws : List ℕ) (q : Answer) (number : ℕ) (e : startWords (sha1 32) n ≡ q)
-    (is : first (test 1 (allowed n) ∷ test 2 (eqb (length key) (16 * n)) ∷ test 5 (leb (q .drawn) (length ws)) ∷ []) ≡ number) where
+    (is : first (test 1 (allowed n) ∷ test 2 (eqb (length key) (16 * n)) ∷ test 5 (leb (q .drawn) (length ws)) ∷ [])
+    ≡ number) where
   pub start-refused : (number ≡ 0 → ⊥)
       → startCall (sha1 32) n key ws ≡ record { number = number; drawn = 0; state = state 0 0 [] [] [] }
   unfolding startCall

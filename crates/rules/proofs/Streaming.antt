@@ -85,7 +85,8 @@ module _ {M : Masked} {n : ℕ} {Fits : ℕ → Type 0} {Good : List ℕ → ℕ
   Readable text = (j i : ℕ) → Fits (getD (wordsOf size 16 (drop j text)) i 0)
 
   pub full-rule : (m : ℕ) (text : List ℕ) {h C : List ℕ} → Readable text → Goods Good c h C
-      → Rule (m * M .draws n) (λ z. Goods Good c z (blocksOf S m (wordsOf size (m * 16) text) C)) (fullBlocks M n m text h)
+      → Rule (m * M .draws n) (λ z. Goods Good c z (blocksOf S m (wordsOf size (m * 16) text) C))
+      (fullBlocks M n m text h)
   unfolding fullBlocks blocksOf
   full-rule zero text {h} {C} u g = counted (give (λ z. Goods Good c z C) h g) (sym (zero-mul (M .draws n)))
   full-rule (suc m) text {h} {C} u g =
@@ -96,7 +97,8 @@ module _ {M : Masked} {n : ℕ} {Fits : ℕ → Type 0} {Good : List ℕ → ℕ
       ap (λ t. wordsOf size t text) (suc-mul m 16 ∙ omega arith) ∙ words-split size 16 (m * 16) text in
       let later : Readable (drop block text) = λ j i. rw (drop-drop j block text) (u (block + j) i) in
       said
-      (bind (keeps .compresses g (publics-of keeps 16 W sixteen (λ i b. u 0 i))) (λ z gz. full-rule m (drop block text) later gz))
+      (bind (keeps .compresses g (publics-of keeps 16 W sixteen (λ i b. u 0 i)))
+      (λ z gz. full-rule m (drop block text) later gz))
       (omega (arith, suc-mul m (M .draws n)))
       (λ z gz. rw (more, take-at W rest 16 sixteen, drop-at W rest 16 sixteen) gz)
 
@@ -110,8 +112,10 @@ module _ {M : Masked} {n : ℕ} {Fits : ℕ → Type 0} {Good : List ℕ → ℕ
     pub inner : List ℕ
     pub outer : List ℕ
     pub is : t ≡ state n 0 inner outer []
-    pub inner-good : Goods Good (chainWords K) inner (K .compress (K .start) (map (λ w. bitXor w (everyByte K 0x36)) KEY))
-    pub outer-good : Goods Good (chainWords K) outer (K .compress (K .start) (map (λ w. bitXor w (everyByte K 0x5c)) KEY))
+    pub inner-good : Goods Good (chainWords K) inner
+        (K .compress (K .start) (map (λ w. bitXor w (everyByte K 0x36)) KEY))
+    pub outer-good : Goods Good (chainWords K) outer
+        (K .compress (K .start) (map (λ w. bitXor w (everyByte K 0x5c)) KEY))
 
   pub start-rule : Rule (startDraws M n) Started (start M n key)
   unfolding start
@@ -133,7 +137,8 @@ fedFrom M n bytes inner outer waits piece ws at =
 
 pub feed-reads : (M : Masked) (s : State) (piece ws : List ℕ) (at : ℕ)
     → (let H = M .standard in
-    feed M s piece ws at ≡ fedFrom M (s .n) (s .bytes) (inUse H s (s .inner)) (inUse H s (s .outer)) (waiting H s) piece ws at)
+    feed M s piece ws at ≡ fedFrom M (s .n) (s .bytes) (inUse H s (s .inner)) (inUse H s (s .outer))
+    (waiting H s) piece ws at)
 unfolding feed
 feed-reads M s piece ws at = refl
 
@@ -146,7 +151,8 @@ finishedFrom M n bytes inner outer waits ws at =
 
 pub finish-reads : (M : Masked) (s : State) (ws : List ℕ) (at : ℕ)
     → (let H = M .standard in
-    finish M s ws at ≡ finishedFrom M (s .n) (s .bytes) (inUse H s (s .inner)) (inUse H s (s .outer)) (waiting H s) ws at)
+    finish M s ws at ≡ finishedFrom M (s .n) (s .bytes) (inUse H s (s .inner)) (inUse H s (s .outer))
+    (waiting H s) ws at)
 unfolding finish
 finish-reads M s ws at = refl
 
@@ -155,12 +161,14 @@ module _ (M : Masked) (s t : State) (alike-read : ReadAlike (M .standard) s t) w
   pub feed-alike : (piece ws : List ℕ) (at : ℕ) → feed M s piece ws at ≡ feed M t piece ws at
   feed-alike piece ws at =
       let a = alike-read in
-      feed-reads M s piece ws at ∙ rw (a .inners, a .outers, a .tails, a .counts, a .bytes-fed) (sym (feed-reads M t piece ws at))
+      feed-reads M s piece ws at
+      ∙ rw (a .inners, a .outers, a .tails, a .counts, a .bytes-fed) (sym (feed-reads M t piece ws at))
 
   pub finish-alike : (ws : List ℕ) (at : ℕ) → finish M s ws at ≡ finish M t ws at
   finish-alike ws at =
       let a = alike-read in
-      finish-reads M s ws at ∙ rw (a .inners, a .outers, a .tails, a .counts, a .bytes-fed) (sym (finish-reads M t ws at))
+      finish-reads M s ws at ∙ rw (a .inners, a .outers, a .tails, a .counts, a .bytes-fed)
+      (sym (finish-reads M t ws at))
 
 -- ---- what they make
 module _ {M : Masked} {n : ℕ} {Fits : ℕ → Type 0} {Good : List ℕ → ℕ → Type 0} (keeps : Keeps M n Fits Good)
@@ -200,7 +208,8 @@ module _ {M : Masked} {n : ℕ} {Fits : ℕ → Type 0} {Good : List ℕ → ℕ
     pub record Tagged (t : List ℕ) : Type 0 where
       pub chain : List ℕ
       pub is : t ≡ tagOf T n chain
-      pub good : Goods Good (chainWords T) chain (T .compress O (blocksOf T (length last / 16) last I ++ digestPadding T))
+      pub good : Goods Good (chainWords T) chain
+          (T .compress O (blocksOf T (length last / 16) last I ++ digestPadding T))
 
     pub finished-rule : ((i : ℕ) → Fits (getD last i 0))
         → Rule (finishDraws M n bytes) Tagged (finishedFrom M n bytes inner outer waits)
@@ -276,7 +285,8 @@ module _ (M : Masked) (n bytes : ℕ) (inner outer waits : List ℕ) (sixty-four
   pub rest-size : length rest ≡ (bytes + length p) % wide
   rest-size =
       length-drop (many * wide) first ∙ left-over wide sixty-four (length first)
-      ∙ ap (λ l. l % wide) (length-append waits p ∙ ap (λ l. l + length p) waits-size) ∙ tail-after wide sixty-four bytes (length p)
+      ∙ ap (λ l. l % wide) (length-append waits p ∙ ap (λ l. l + length p) waits-size)
+      ∙ tail-after wide sixty-four bytes (length p)
 
   module _ (q : List ℕ) where
     whole : waits ++ (p ++ q) ≡ first ++ q
@@ -289,19 +299,27 @@ module _ (M : Masked) (n bytes : ℕ) (inner outer waits : List ℕ) (sixty-four
     counted-so =
         ap (λ l. l / wide)
         (length-append first q
-        ∙ omega (arith, length-append rest q, length-drop (many * wide) first, whole-part wide sixty-four (length first)))
+        ∙ omega (
+          arith,
+          length-append rest q,
+          length-drop (many * wide) first,
+          whole-part wide sixty-four
+              (length first),
+        ))
         ∙ whole-and wide sixty-four many (length (rest ++ q))
 
     pub ends-so : (let more = length (rest ++ q) / wide in
         drop ((many + more) * wide) (first ++ q) ≡ drop (more * wide) (rest ++ q))
     ends-so =
         let more = length (rest ++ q) / wide in
-        ap (λ t. drop t (first ++ q)) (add-mul many more wide) ∙ sym (drop-drop (more * wide) (many * wide) (first ++ q))
+        ap (λ t. drop t (first ++ q)) (add-mul many more wide)
+        ∙ sym (drop-drop (more * wide) (many * wide) (first ++ q))
         ∙ ap (drop (more * wide)) dropped
 
     pub joined : (ws : List ℕ) (at : ℕ)
         → fedFrom M n bytes inner outer waits (p ++ q) ws at
-        ≡ (let r = fullBlocks M n many first inner ws at in fedFrom M n (bytes + length p) (r .0) outer rest q ws (r .1))
+        ≡ (let r = fullBlocks M n many first inner ws at in fedFrom M n (bytes + length p) (r .0) outer rest q ws
+        (r .1))
     joined ws at =
         let more = length (rest ++ q) / wide in
         let all : bytes + length (p ++ q) ≡ bytes + length p + length q = omega (arith, length-append p q) in

@@ -39,7 +39,8 @@ module _ (M : Masked) (n : ℕ) (some : 0 < n) (proper : Proper (M .standard)) (
   hmacTag-is keeps key text shares ws at short keys texts size shared =
       let small : Words k (openWords n 16 shares) =
       rw shared (bytes-are-words (H .wordBytes) 16 (keyBlock H key) (key-bytes H proper key text short keys)) in
-      let rule = hmac-rule keeps proper some text (ending-words H proper (blockBytes H) text texts) (masks k n 16 shares size small) in
+      let rule = hmac-rule keeps proper some text (ending-words H proper (blockBytes H) text texts)
+      (masks k n 16 shares size small) in
       ap (allBytes (H .wordBytes)) (goods-open (λ x X g. (g .0, g .1)) (rule .makes ws at) ∙ ap (λ t. hmacOf H t text) shared)
       ∙ hmacOf-is H proper key text short keys chains
 

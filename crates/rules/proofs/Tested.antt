@@ -127,7 +127,8 @@ pub fit-ready : (n bytes finished : ℕ) → first (test 6 (fit n bytes finished
     → (allowed n ≡ true) × (bytes ≤ longestMessage)
 fit-ready n bytes finished h = fits n bytes finished (holds _ _ (passed _ h .0))
 
-pub piece-ready : (n bytes finished all : ℕ) → first (test 6 (fit n bytes finished) ∷ test 4 (leb all longestMessage) ∷ []) ≡ 0
+pub piece-ready : (n bytes finished all : ℕ)
+    → first (test 6 (fit n bytes finished) ∷ test 4 (leb all longestMessage) ∷ []) ≡ 0
     → (allowed n ≡ true) × (all ≤ longestMessage)
 piece-ready n bytes finished all h =
     let p = passed _ h in

@@ -1,4 +1,5 @@
--- Section 5: how many words each rule draws, in closed form, for n shares of k bits. That the rules draw so many is proved.
+-- Sections 5, 6 and 10: how many words each rule draws, in closed form, for n shares of k bits. That the rules draw so
+-- many is proved.
 use Prim.Native.Nat.{ℕ, zero, suc, _+_, _-_, _*_, _/_, _%_}
 use lib.Dec.{leb}
 use Rattle.words.specs.Word.{Width}
@@ -59,7 +60,8 @@ compressions H l = (l + H .lengthBytes) / blockBytes H + 4
 abbrev pub hmacDraws : Masked → Count → ℕ → ℕ
 hmacDraws M n l = compressions (M .standard) l * M .draws n
 
--- ---- streaming: start makes two compressions; a feed of l bytes after `bytes` one for each block that it fills; finish the rest
+-- ---- section 10: start makes two compressions, a feed of l bytes after `bytes` one for each block that it fills,
+-- finish the rest
 abbrev pub startDraws : Masked → Count → ℕ
 startDraws M n = 2 * M .draws n
 

@@ -49,8 +49,8 @@ blocks M n (suc m) W h ws at =
 abbrev pub digestPadding : Hash → List Word
 digestPadding H = wordsOf (H .wordBytes) (16 - chainWords H) (padding H (blockBytes H + digestBytes H))
 
--- the steps of HMAC: a key block into the chain that starts a hash; a text after `before` bytes, with its padding, into a chain;
--- the digest block of the inner chain into the outer one
+-- the steps of HMAC: a key block into the chain that starts a hash; a text after `before` bytes, with its padding, into
+-- a chain; the digest block of the inner chain into the outer one
 abbrev pub keyStep : Masked → Count → ℕ → Sharing → Draw Sharing
 keyStep M n c key = M .compress n (publics n (M .standard .start)) (keyed (M .standard) n c key)
 

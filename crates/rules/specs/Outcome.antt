@@ -26,7 +26,7 @@ pub record Whole (s : State) : Type 0 where
 abbrev pub None : Type 0
 None = Unit {0}
 
--- Section 3: a test gives its own number where what it asks does not hold; else the tests after it decide, and at last 0
+-- Section 3: a test gives its number where what it asks does not hold; else the tests after it decide, and at last 0
 pub data Asks (A : Type 0) (own : ℕ) (Rest : ℕ → Type 0) : ℕ → Type 0 where
   fails : (A → ⊥) → Asks A own Rest own
   holds : {number : ℕ} → A → Rest number → Asks A own Rest number

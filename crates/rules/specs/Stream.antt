@@ -1,5 +1,5 @@
--- Streaming: a tag while the message comes in pieces, over any hash in shares. Start, feed a piece of any length, and finish, each
--- with words of its own; the state is handed in and out.
+-- Section 10, streaming: a tag while the message comes in pieces, over any hash in shares. Start, feed a piece of any
+-- length, and finish, each with words of its own; the state is handed in and out.
 use Prim.Native.Nat.{ℕ, zero, suc, _+_, _-_, _*_, _/_, _%_}
 use mathlib.Core.Path.{_≡_}
 use mathlib.Core.Bool.{Bool}
@@ -60,7 +60,8 @@ start M n key ws at =
     let o = keyStep M n 0x5c key ws (i .1) in
     (state n 0 (i .0) (o .0) [], o .1)
 
--- feed: the bytes that wait and then the piece; every block that becomes full is compressed at once, in order; the rest waits
+-- feed: the bytes that wait and then the piece; every block that becomes full is compressed at once, in order; the rest
+-- waits
 unfoldable pub fullBlocks : Masked → Count → ℕ → Bytes → Sharing → Draw Sharing
 fullBlocks M n zero text h ws at = (h, at)
 fullBlocks M n (suc m) text h ws at =
@@ -77,8 +78,8 @@ feed M s piece ws at =
     let rest = drop (full * blockBytes H) text in
     (state (s .n) (s .bytes + length piece) (c .0) (inUse H s (s .outer)) rest, c .1)
 
--- finish: the padding over the whole length with the key block counted, into the inner chain; then the digest block into the
--- outer one; the tag is opened
+-- finish: the padding over the whole length with the key block counted, into the inner chain; then the digest block
+-- into the outer one; the tag is opened
 unfoldable pub finish : Masked → State → Draw Bytes
 finish M s ws at =
     let H = M .standard in
@@ -97,13 +98,15 @@ streamed answer s = record { number = answer .number; drawn = answer .drawn; sta
 -- a refused start gives a state of zeros
 unfoldable pub startCall : Masked → Count → Sharing → Supply → Streamed
 startCall M n key ws =
-    let o = call (test 1 (allowed n) ∷ test 2 (eqb (length key) (16 * n)) ∷ []) (start M n key) (state 0 0 [] [] []) ws in
+    let o = call (test 1 (allowed n) ∷ test 2 (eqb (length key) (16 * n)) ∷ []) (start M n key)
+    (state 0 0 [] [] []) ws in
     streamed (o .0) (o .1)
 
 -- a refused piece hands back the state; the limit counts all pieces
 unfoldable pub feedCall : Masked → State → Bytes → Supply → Streamed
 feedCall M s piece ws =
-    let o = call (test 6 (isFit s) ∷ test 4 (leb (s .bytes + length piece) longestMessage) ∷ []) (feed M s piece) s ws in
+    let o = call (test 6 (isFit s) ∷ test 4 (leb (s .bytes + length piece) longestMessage) ∷ [])
+    (feed M s piece) s ws in
     streamed (o .0) (o .1)
 
 -- what is handed back inside, number and count for every case; the state stands beside it

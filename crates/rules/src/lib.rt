@@ -58,9 +58,9 @@ pub struct Compressed {
     pub chain: Chain,
 }
 
-// What is carried from piece to piece of a message: the share count, how many bytes were fed so far, a mark that is not 0 once
-// the tag was handed out, the chains after the inner and after the outer key block, and the bytes of the block that is not yet
-// full, the first `bytes` mod 64 of `tail`.
+// What is carried from piece to piece of a message: the share count, how many bytes were fed so far, a mark that is not
+// 0 once the tag was handed out, the chains after the inner and after the outer key block, and the bytes of the block
+// that is not yet full, the first `bytes` mod 64 of `tail`.
 #[repr(C)]
 pub struct State {
     pub n: usize,

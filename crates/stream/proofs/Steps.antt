@@ -4,7 +4,8 @@ use mathlib.Core.Path.{_≡_, refl, sym, ap, ap₂, _∙_}
 use mathlib.Core.List.{List, [], _++_, map, append-nil}
 use native.Mathlib.Omega.{arith}
 use native.Mathlib.Nat.{sub-zero, add-mul}
-use lib.ListN.{length, getD, set, take, drop, replicate, length-append, length-drop, length-map, take-append-drop, List·getD-append}
+use lib.ListN.{length, getD, set, take, drop, replicate, length-append, length-drop, length-map, take-append-drop}
+use lib.ListN.{List·getD-append}
 use lib.Seq.{take-at, take-all, drop-drop, getD-append-add, getD-take, getD-drop, length-take-le}
 use Rattle.words.proofs.Stores.{filled-next, filled-end}
 use Rattle.rules.specs.declared.Chain.{Chain}
@@ -30,7 +31,8 @@ pub cleared-made : (n : ℕ) (chain h : List ℕ) → n ≤ largest → length (
     (record { shares = filled 40 (used n chain) })
 unfolding used
 cleared-made n chain h few whole e =
-    let long : length (take (5 * n) chain) ≡ 5 * n = length-take-le (5 * n) chain (omega (arith, chain-length chain whole)) in
+    let long : length (take (5 * n) chain) ≡ 5 * n =
+    length-take-le (5 * n) chain (omega (arith, chain-length chain whole)) in
     rw (e, used-lent n chain, zeros-after (5 * largest) (5 * n) (omega arith), long)
 
 -- ---- the bytes that wait and then the piece
@@ -81,12 +83,14 @@ pub full-made : (n : ℕ) (h tail piece block ws : List ℕ) (j at : ℕ) {o : R
     → hash .compress n h (publics n (wordsOf 4 16 (drop (64 * j) (tail ++ piece)))) ws at ≡ o
 full-made n h tail piece block ws j at room e f =
     let text = tail ++ piece in
-    let long : 64 ≤ length (drop (64 * j) text) = rw (length-drop (64 * j) text, length-append tail piece) (omega arith) in
+    let long : 64 ≤ length (drop (64 * j) text) =
+    rw (length-drop (64 * j) text, length-append tail piece) (omega arith) in
     rw (← full-words (drop (64 * j) text) long, ← e) f
 
 -- ---- the full blocks, one after the other: j of them done
 module _ (n : ℕ) (ws text : List ℕ) (count : ℕ) (e : Run) where
-  pub full-begin : (m p : ℕ) (g : List ℕ) → count ≡ m → fullBlocks hash n (count - 0) text g ws p ≡ fullBlocks hash n m text g ws p
+  pub full-begin : (m p : ℕ) (g : List ℕ) → count ≡ m → fullBlocks hash n (count - 0) text g ws p
+      ≡ fullBlocks hash n m text g ws p
   full-begin m p g f = rw (f, sub-zero m)
 
   pub full-next : (j p q : ℕ) (g g1 : List ℕ) → j < count
@@ -97,10 +101,13 @@ module _ (n : ℕ) (ws text : List ℕ) (count : ℕ) (e : Run) where
   full-next j p q g g1 l f inv =
       let m : count - j ≡ suc (count - (j + 1)) = omega arith in
       let place : 64 * j + 64 ≡ 64 * (j + 1) = omega arith in
-      let rest : drop 64 (drop (64 * j) text) ≡ drop (64 * (j + 1)) text = drop-drop 64 (64 * j) text ∙ ap (λ t. drop t text) place in
-      rw (← rest) (sym (ap (λ (r : Run). fullBlocks hash n (count - (j + 1)) (drop 64 (drop (64 * j) text)) (r .0) ws (r .1)) f) ∙ (rw m at inv))
+      let rest : drop 64 (drop (64 * j) text) ≡ drop (64 * (j + 1)) text = drop-drop 64 (64 * j) text
+      ∙ ap (λ t. drop t text) place in
+      rw (← rest) (sym (ap (λ (r : Run). fullBlocks hash n (count - (j + 1)) (drop 64 (drop (64 * j) text)) (r .0) ws
+      (r .1)) f) ∙ (rw m at inv))
 
-  pub full-end : (j p : ℕ) (g : List ℕ) → count ≤ j → fullBlocks hash n (count - j) (drop (64 * j) text) g ws p ≡ e → e ≡ (g, p)
+  pub full-end : (j p : ℕ) (g : List ℕ) → count ≤ j → fullBlocks hash n (count - j) (drop (64 * j) text) g ws p ≡ e → e
+      ≡ (g, p)
   unfolding fullBlocks
   full-end j p g l inv = let m : count - j ≡ 0 = omega arith in sym (rw m at inv)
 
@@ -141,9 +148,11 @@ module _ (s : State) (piece ws tail rest : List ℕ) (at p : ℕ) (inner : Chain
   left = (s .bytes + length piece) % 64
 
   pub feed-made : length (map (λ (v : ℕ). v) (s .tail)) ≡ 64 → tail ≡ take (s .bytes % 64 - 0) (s .tail)
-      → fullBlocks hash (s .n) ((length tail + length piece) / 64) (tail ++ piece) (used (s .n) (s .inner .shares)) ws at
+      → fullBlocks hash (s .n) ((length tail + length piece) / 64) (tail ++ piece)
+      (used (s .n) (s .inner .shares)) ws at
       ≡ (used (s .n) (inner .shares), p)
-      → rest ≡ take (length (take {A = ℕ} (left - 0) (replicate 64 0))) (drop (s .bytes % 64 + length piece - left) (tail ++ piece))
+      → rest ≡ take (length (take {A = ℕ} (left - 0) (replicate 64 0)))
+      (drop (s .bytes % 64 + length piece - left) (tail ++ piece))
       → r ≡ record {
         n = s .n;
         bytes = s .bytes + length piece;
@@ -158,14 +167,17 @@ module _ (s : State) (piece ws tail rest : List ℕ) (at p : ℕ) (inner : Chain
       let text = tail ++ piece in
       let m = s .bytes % 64 in
       let waited : tail ≡ take m (s .tail) = waits ∙ rw (sub-zero m) in
-      let long : length tail ≡ m = ap length waited ∙ length-take-le m (s .tail) (tail-room (s .bytes) (s .tail) whole) in
+      let long : length tail ≡ m = ap length waited
+      ∙ length-take-le m (s .tail) (tail-room (s .bytes) (s .tail) whole) in
       let size : length text ≡ length tail + length piece = length-append tail piece in
       let place : m + length piece - left ≡ length text / 64 * 64 = omega arith in
-      let over : length (drop (length text / 64 * 64) text) ≡ left = length-drop (length text / 64 * 64) text ∙ omega arith in
+      let over : length (drop (length text / 64 * 64) text) ≡ left = length-drop (length text / 64 * 64) text
+      ∙ omega arith in
       let room : length (take {A = ℕ} (left - 0) (replicate 64 0)) ≡ left =
       rw (sub-zero left) (length-take-le left (replicate 64 0) (omega arith)) in
       let last : rest ≡ drop (length text / 64 * 64) text =
-      ends ∙ ap₂ (λ l t. take l (drop t text)) room place ∙ take-all left (drop (length text / 64 * 64) text) (omega (arith, over)) in
+      ends ∙ ap₂ (λ l t. take l (drop t text)) room place
+      ∙ take-all left (drop (length text / 64 * 64) text) (omega (arith, over)) in
       rw (is, ← waited, last, over, zeros-after 64 left (omega arith), size, full)
 
 -- ---- a state after both key blocks
@@ -187,7 +199,8 @@ start-made n key ws at p q i o s a b is = rw (a, b, is)
 -- ---- the tag: the rest of the message with its padding, then the digest block
 pub finish-made : (s : State) (ws tail tag : List ℕ) (at p q : ℕ) (inner last : Chain)
     → length (map (λ (v : ℕ). v) (s .tail)) ≡ 64 → tail ≡ take (s .bytes % 64 - 0) (s .tail)
-    → blocks hash (s .n) (blocksIn (length tail)) (publics (s .n) (ending (hash .standard) ((s .bytes / 64 + 1) * 64) tail))
+    → blocks hash (s .n) (blocksIn (length tail))
+    (publics (s .n) (ending (hash .standard) ((s .bytes / 64 + 1) * 64) tail))
     (used (s .n) (s .inner .shares)) ws at
     ≡ (used (s .n) (inner .shares), p)
     → hash .compress (s .n) (used (s .n) (s .outer .shares))

@@ -1,4 +1,5 @@
-// A tag while the message comes in pieces: start, feed and finish, each proved to be its rule, over the steps of crate `hmac`.
+// A tag while the message comes in pieces: start, feed and finish, each proved to be its rule, by the steps of `hmac`.
+// The calls' tests go by the counts and the mark of a state: its shares are copied for what needs them alone.
 ghost use mathlib.Core.Path.{_≡_};
 ghost use mathlib.Core.List.{[], _++_};
 ghost use Prim.Native.Nat.{_+_, _*_, _/_, _%_, _≤_, _<_};
@@ -7,7 +8,8 @@ ghost use Rattle.rules.specs.Numbers.{largest, longestMessage};
 ghost use Rattle.rules.specs.Hash.{wordsOf};
 ghost use Rattle.rules.specs.Sha1.{publics, used};
 ghost use Rattle.rules.specs.Counts.{startDraws, feedDraws, finishDraws};
-ghost use Rattle.rules.specs.Stream.{filled, state, start, fullBlocks, feed, finish, streamed, feedCall, fedAnswer, closed};
+ghost use Rattle.rules.specs.Stream.{filled, state, start, fullBlocks, feed, finish, streamed, feedCall, fedAnswer};
+ghost use Rattle.rules.specs.Stream.{closed};
 ghost use Rattle.hash.specs.Hash.{hash};
 ghost use Rattle.padding.specs.Whole.{Hashable};
 use hmac::INNER;
@@ -78,7 +80,8 @@ pub struct Moved {
 
 // The inner key block, then the outer one, from the word at `at` on.
 pub fn start_at(n: usize, key: &[u32], words: &[u32], at: usize) -> Moved
-    requires { ⌜ (0 < n) × (n ≤ largest) × (length (now key) ≡ 16 * n) × (at + startDraws hash n ≤ length (now words)) ⌝ }
+    requires { ⌜ (0 < n) × (n ≤ largest) × (length (now key) ≡ 16 * n)
+        × (at + startDraws hash n ≤ length (now words)) ⌝ }
     ensures { λ r. ⌜ start hash n (now (key .entry)) (now (words .entry)) at ≡ (r .state, r .at) ⌝ }
 {
     let inner = hmac::key_step(n, INNER, key, words, at);
@@ -106,7 +109,8 @@ fn byte_of(tail: &[u8], piece: &[u8], i: usize) -> u8
 // z becomes the bytes that wait and then the piece, from byte p on.
 fn gather(tail: &[u8], piece: &[u8], p: usize, z: &mut [u8])
     requires { ⌜ p + length (now z) ≤ length (now tail) + length (now piece) ⌝ }
-    ensures { λ _. ⌜ now (z .exit) ≡ take (length (now (z .entry))) (drop p (now (tail .entry) ++ now (piece .entry))) ⌝ }
+    ensures { λ _. ⌜ now (z .exit)
+        ≡ take (length (now (z .entry))) (drop p (now (tail .entry) ++ now (piece .entry))) ⌝ }
 {
     let mut i = 0;
     while i < z.len() {
@@ -195,10 +199,14 @@ pub struct Feeding {
 
 // A piece of any length fed to any state, with any words lent.
 pub fn feed(state: State, piece: &[u8], words: &[u32]) -> Feeding
-    ensures { λ r. ⌜ feedCall hash state (now (piece .entry)) (now (words .entry)) ≡ streamed (fedAnswer (r .fed)) (r .state) ⌝ }
+    ensures { λ r. ⌜ feedCall hash state (now (piece .entry)) (now (words .entry))
+        ≡ streamed (fedAnswer (r .fed)) (r .state) ⌝ }
 {
-    let need = numbers::feed_words(state, piece.len()).drawn;
-    let number = numbers::feeding(state, piece.len(), need, words.len());
+    let n = state.n;
+    let bytes = state.bytes;
+    let mark = state.finished;
+    let need = numbers::feed_words(n, bytes, mark, piece.len()).drawn;
+    let number = numbers::feeding(n, bytes, mark, piece.len(), need, words.len());
     if number != DONE {
         return Feeding {
             fed: Fed::Refused(number),
@@ -225,7 +233,8 @@ pub fn refusal(fed: Fed) -> u32
 
 // ---- finish
 
-// The rest of the message with its padding, then the digest block, from the word at `at` on: the tag, and the place after.
+// The rest of the message with its padding, then the digest block, from the word at `at` on: the tag, and the place
+// after.
 pub fn finish_at(state: State, tag: &mut [u8], words: &[u32], at: usize) -> usize
     requires { ⌜ (0 < state .n) × (state .n ≤ largest) × (state .bytes ≤ longestMessage) × (length (now tag) ≡ 20)
         × (at + finishDraws hash (state .n) (state .bytes) ≤ length (now words)) ⌝ }

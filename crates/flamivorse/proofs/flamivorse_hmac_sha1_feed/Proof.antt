@@ -18,4 +18,5 @@ returns-2 c =
 
 pub flamivorse-hmac-sha1-feed-spec : {M : Type 1} → statement M
 flamivorse-hmac-sha1-feed-spec =
-    tie.close (tie.spec (λ c κs. search needs) (λ c. search needs) (λ c. search needs) (λ c κs. search needs) (λ c κs. search needs) returns (λ c κs. search needs) returns-2)
+    tie.close (tie.spec (λ c κs. search needs) (λ c. search needs) (λ c. search needs) (λ c κs. search needs)
+    (λ c κs. search needs) returns (λ c κs. search needs) returns-2)

@@ -14,7 +14,8 @@ returns c =
     let inner = state .1 .1 .1 .1 .1 .0 .1 .1 .0 .1 .0 in
     let outer = state .1 .1 .1 .1 .1 .1 .0 .1 .1 .0 .1 .0 in
     let tail = state .1 .1 .1 .1 .1 .1 .1 .0 .1 .0 in
-    finish-refused (start .args .state) (start .args .words .now) _ (inner .1) (outer .1) (tail .1) (start .args .tag .now) _
+    finish-refused (start .args .state) (start .args .words .now) _ (inner .1) (outer .1) (tail .1)
+    (start .args .tag .now) _
     (c .before .before .before .finish-words .ensures) (c .before .before .finishing .ensures) (c .before .if1 .taken)
     ∙ ap (λ r. (r, start .args .tag .now)) (sym (c .streamed .ensures))
 
@@ -33,11 +34,13 @@ returns-2 c =
     let outer = state .1 .1 .1 .1 .1 .1 .0 .1 .1 .0 .1 .0 in
     let tail = state .1 .1 .1 .1 .1 .1 .1 .0 .1 .0 in
     let made = c .before .before .before .before .finish-at in
-    finish-done (start .args .state) (start .args .words .now) _ (inner .1) (outer .1) (tail .1) (start .args .tag .now) _
+    finish-done (start .args .state) (start .args .words .now) _ (inner .1) (outer .1) (tail .1)
+    (start .args .tag .now) _
     (else .before .before .finish-words .ensures) (else .before .finishing .ensures) (else .if1 .left)
     (made .last .1 .0) (made .result) (made .ensures)
     ∙ ap (λ r. (r, made .last .1 .0)) (sym (rw (c .before .finished .ensures) at (c .streamed2 .ensures)))
 
 pub flamivorse-hmac-sha1-finish-spec : {M : Type 1} → statement M
 flamivorse-hmac-sha1-finish-spec =
-    tie.close (tie.spec (λ c κs. search needs) (λ c κs. search needs) (λ c κs. search needs) returns finish-at-requires (λ c κs. search needs) (λ c κs. search needs) (λ c. search needs) returns-2)
+    tie.close (tie.spec (λ c κs. search needs) (λ c κs. search needs) (λ c κs. search needs) returns finish-at-requires
+    (λ c κs. search needs) (λ c κs. search needs) (λ c. search needs) returns-2)

@@ -21,10 +21,12 @@ start-at-requires c κs =
 returns-2 : tie.Need-returns-2
 returns-2 c =
     let before = c .before .before .before .before in
-    start-done _ _ _ _ _ (before .before .start-words .ensures) (before .compressing .ensures) (c .before .before .before .if1 .left)
+    start-done _ _ _ _ _ (before .before .start-words .ensures) (before .compressing .ensures)
+    (c .before .before .before .if1 .left)
     _ _ (c .before .before .start-at .ensures)
     ∙ sym (c .streamed2 .ensures)
 
 pub flamivorse-hmac-sha1-start-spec : {M : Type 1} → statement M
 flamivorse-hmac-sha1-start-spec =
-    tie.close (tie.spec (λ c κs. search needs) (λ c κs. search needs) (λ c κs. search needs) (λ c κs. search needs) returns start-at-requires (λ c κs. search needs) returns-2)
+    tie.close (tie.spec (λ c κs. search needs) (λ c κs. search needs) (λ c κs. search needs)
+    (λ c κs. search needs) returns start-at-requires (λ c κs. search needs) returns-2)

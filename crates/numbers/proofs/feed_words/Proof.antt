@@ -13,25 +13,26 @@ returns c = query-refused _ _ _ (c .before .before .growth .ensures) (c .before 
 
 add-filled : tie.Need-add-filled
 add-filled c =
-    let a = c .before .before .before .args in
-    let p = piece-ready (a .state .n) (a .state .bytes) (a .state .finished) (a .state .bytes + a .piece)
-    (c .before .before .growth .ensures ∙ c .before .if1 .left) in
+    let a = c .before .before .args in
+    let p = piece-ready (a .n) (a .bytes) (a .finished) (a .bytes + a .piece)
+    (c .before .growth .ensures ∙ c .if1 .left) in
     omega (arith, p .1)
 
 compressions-words-requires : tie.Need-compressions-words-requires
 compressions-words-requires c κs =
-    let a = c .before .before .before .args in
-    let p = piece-ready (a .state .n) (a .state .bytes) (a .state .finished) (a .state .bytes + a .piece)
-    (c .before .before .growth .ensures ∙ c .before .if1 .left) in
+    let a = c .before .before .args in
+    let p = piece-ready (a .n) (a .bytes) (a .finished) (a .bytes + a .piece)
+    (c .before .growth .ensures ∙ c .if1 .left) in
     (omega (arith, p .1), p .0)
 
 returns-2 : tie.Need-returns-2
 returns-2 c =
-    query-done _ _ _ _ (c .before .before .before .before .growth .ensures) (c .before .before .before .if1 .left)
+    query-done _ _ _ _ (c .before .before .before .growth .ensures) (c .before .before .if1 .left)
     (c .before .compressions-words .ensures)
     ∙ sym (c .answer2 .ensures)
 
 pub feed-words-spec : {M : Type 1} → statement M
 feed-words-spec =
     tie.close
-    (tie.spec (λ c κs. search needs) (λ c κs. search needs) returns add-filled compressions-words-requires (λ c κs. search needs) returns-2)
+    (tie.spec (λ c κs. search needs) (λ c κs. search needs) returns add-filled compressions-words-requires
+    (λ c κs. search needs) returns-2)

@@ -9,4 +9,5 @@ pub growth-spec : {M : Type 1} → statement M
 growth-spec =
     tie.close
     (tie.spec (λ c κs. search needs) (λ c κs. search needs) (λ c κs. search needs)
-    (λ c. one-more (_ ∷ []) _ _ _ (c .before .before .fitness .ensures) (rw (c .before .may-grow .ensures) at (c .tested .ensures))))
+    (λ c. one-more (_ ∷ []) _ _ _ (c .before .before .fitness .ensures)
+    (rw (c .before .may-grow .ensures) at (c .tested .ensures))))

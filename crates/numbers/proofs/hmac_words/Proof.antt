@@ -12,7 +12,11 @@ use Rattle.numbers.proofs.hmac_words.Tie as tie
 
 mul-answer : tie.Need-mul-answer
 mul-answer c =
-    omega (arith, compressions-fit _ _ (c .before .before .compress-words .ensures) _ (c .before .compressions .ensures .0))
+    omega (
+      arith,
+      compressions-fit _ _ (c .before .before .compress-words .ensures) _
+          (c .before .compressions .ensures .0),
+    )
 
 returns : tie.Need-returns
 returns c =

@@ -20,4 +20,5 @@ returns-2 c =
     (c .before .before .before .feeding .ensures) (c .before .before .if1 .left) _ _ (c .before .feed-at .ensures)
 
 pub feed-spec : {M : Type 1} → statement M
-feed-spec = tie.close (tie.spec (λ c κs. search needs) (λ c κs. search needs) (λ c. search feed-refused) feed-at-requires returns-2)
+feed-spec = tie.close (tie.spec (λ c κs. search needs) (λ c κs. search needs)
+    (λ c. search feed-refused) feed-at-requires returns-2)

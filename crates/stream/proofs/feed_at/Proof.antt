@@ -12,7 +12,8 @@ returns c =
     let tail = start .good .0 .1 .1 .1 .1 .1 .1 .1 .0 .1 .0 in
     let a = start .args in
     feed-made (a .state) (a .piece .now) (a .words .now) _ _ _ _ _ _ (tail .1) refl
-    (c .before .before .before .before .full-blocks .ensures) (c .before .before .gather .ensures) (c .state-of .ensures)
+    (c .before .before .before .before .full-blocks .ensures) (c .before .before .gather .ensures)
+    (c .state-of .ensures)
 
 pub feed-at-spec : {M : Type 1} → statement M
 feed-at-spec =

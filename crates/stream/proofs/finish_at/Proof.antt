@@ -13,7 +13,8 @@ returns c =
     let tail = start .good .0 .1 .1 .1 .1 .1 .1 .1 .0 .1 .0 in
     let a = start .args in
     finish-made (a .state) (a .words .now) _ _ _ _ _ _ _ (tail .1) refl
-    (c .before .before .before .before .before .text-step .ensures .0) (c .before .before .before .before .digest-step .ensures .0)
+    (c .before .before .before .before .before .text-step .ensures .0)
+    (c .before .before .before .before .digest-step .ensures .0)
     (c .before .before .tag-bytes .ensures)
 
 pub finish-at-spec : {M : Type 1} → statement M

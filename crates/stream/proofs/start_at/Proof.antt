@@ -5,4 +5,5 @@ use Rattle.stream.proofs.start_at.Statement.{statement}
 use Rattle.stream.proofs.start_at.Tie as tie
 
 pub start-at-spec : {M : Type 1} → statement M
-start-at-spec = tie.close (tie.spec (λ c κs. search needs) (λ c κs. search needs) (λ c κs. search needs) (λ c. search start-made))
+start-at-spec = tie.close (tie.spec (λ c κs. search needs) (λ c κs. search needs) (λ c κs. search needs)
+    (λ c. search start-made))

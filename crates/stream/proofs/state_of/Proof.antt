@@ -4,4 +4,5 @@ use Rattle.stream.proofs.state_of.Statement.{statement}
 use Rattle.stream.proofs.state_of.Tie as tie
 
 pub state-of-spec : {M : Type 1} → statement M
-state-of-spec = tie.close (tie.spec (λ c κs. search needs) (λ c κs. search needs) (λ c. rw (c .before .cleared .ensures, c .cleared2 .ensures)))
+state-of-spec = tie.close (tie.spec (λ c κs. search needs) (λ c κs. search needs)
+    (λ c. rw (c .before .cleared .ensures, c .cleared2 .ensures)))
