@@ -6,20 +6,25 @@
 typedef struct { uint32_t *start; size_t length; } lent_words;
 typedef struct { uint8_t *start; size_t length; } lent_bytes;
 
+/* What a query looks at of a state: share count, bytes so far, mark. Calls without a state have the share count alone.
+ * lent.rs has the same struct. */
+typedef struct { size_t n; uint64_t fed; uint32_t finished; } outline;
+
 /* All that a call can be lent; by_c.rs has the same struct. */
 typedef struct {
-    size_t n;
+    outline state;
     uint32_t values[3];
     lent_words inputs[2], output, words;
     lent_bytes bytes, tag;
-    flamivorse_chain *chain;
+    flamivorse_chain *chain, *outer;
+    uint8_t *tail;
 } arguments;
 
 /* The number, and the count of words, or the word, that a call hands back. */
 typedef struct { uint32_t number; uint64_t count; } outcome;
 
 outcome make_by_c(const char *name, arguments *a);
-outcome ask_by_c(const char *name, size_t n, size_t bytes);
+outcome ask_by_c(const char *name, outline state, size_t bytes);
 
 static outcome word(uint32_t answer)
 {
@@ -48,38 +53,77 @@ static outcome compressed(arguments *a, flamivorse_compressed answer)
     return (outcome){answer.number, answer.drawn};
 }
 
+/* So does the state. */
+static outcome streamed(arguments *a, flamivorse_streamed answer)
+{
+    a->state = (outline){answer.state.n, answer.state.bytes, answer.state.finished};
+    *a->chain = answer.state.inner;
+    *a->outer = answer.state.outer;
+    memcpy(a->tail, answer.state.tail, sizeof answer.state.tail);
+    return (outcome){answer.number, answer.drawn};
+}
+
+/* A state with something in every place that a query does not look at. */
+static flamivorse_state outlined(outline state)
+{
+    flamivorse_state made;
+    memset(&made, 0xa5, sizeof made);
+    made.n = state.n;
+    made.bytes = state.fed;
+    made.finished = state.finished;
+    return made;
+}
+
+/* The state that is lent. */
+static flamivorse_state whole(const arguments *a)
+{
+    flamivorse_state made = outlined(a->state);
+    made.inner = *a->chain;
+    made.outer = *a->outer;
+    memcpy(made.tail, a->tail, sizeof made.tail);
+    return made;
+}
+
 #define IS(function) (strcmp(name, #function) == 0)
+/* If it is this function that is asked for, makes the call and hands its answer back as an outcome. */
 #define CALL(function, answer, ...) if (IS(function)) return answer(flamivorse_##function(__VA_ARGS__))
+/* The same of a call that hands back what takes the place of what it was given. */
+#define CHANGE(function, answer, ...) if (IS(function)) return answer(a, flamivorse_##function(__VA_ARGS__))
 #define VALUES a->values[0], a->values[1], a->values[2]
 #define SLICE(slice) a->slice.start, a->slice.length
 
 /* Makes the call of this name. */
 outcome make_by_c(const char *name, arguments *a)
 {
+    size_t n = a->state.n;
     CALL(b2a_2, word, VALUES);
     CALL(a2b_2, word, VALUES);
     CALL(b2a_2_record, number, VALUES, SLICE(output));
     CALL(a2b_2_record, number, VALUES, SLICE(output));
-    CALL(split, counted, a->n, a->values[0], SLICE(output), SLICE(words));
-    CALL(open_xor, opened, a->n, SLICE(inputs[0]));
-    CALL(open_sum, opened, a->n, SLICE(inputs[0]));
-    CALL(refresh, counted, a->n, SLICE(inputs[0]), SLICE(output), SLICE(words));
-    CALL(expand, counted, a->n, SLICE(inputs[0]), SLICE(output), SLICE(words));
-    CALL(and, counted, a->n, SLICE(inputs[0]), SLICE(inputs[1]), SLICE(output), SLICE(words));
-    CALL(add, counted, a->n, SLICE(inputs[0]), SLICE(inputs[1]), SLICE(output), SLICE(words));
-    CALL(a2b, counted, a->n, SLICE(inputs[0]), SLICE(output), SLICE(words));
-    CALL(b2a, counted, a->n, SLICE(inputs[0]), SLICE(output), SLICE(words));
-    CALL(split_key, counted, a->n, SLICE(bytes), SLICE(output), SLICE(words));
-    if (IS(sha1_compress)) return compressed(a, flamivorse_sha1_compress(a->n, *a->chain, SLICE(inputs[0]), SLICE(words)));
-    CALL(hmac_sha1, counted, a->n, SLICE(inputs[0]), SLICE(bytes), SLICE(tag), SLICE(words));
+    CALL(split, counted, n, a->values[0], SLICE(output), SLICE(words));
+    CALL(open_xor, opened, n, SLICE(inputs[0]));
+    CALL(open_sum, opened, n, SLICE(inputs[0]));
+    CALL(refresh, counted, n, SLICE(inputs[0]), SLICE(output), SLICE(words));
+    CALL(expand, counted, n, SLICE(inputs[0]), SLICE(output), SLICE(words));
+    CALL(and, counted, n, SLICE(inputs[0]), SLICE(inputs[1]), SLICE(output), SLICE(words));
+    CALL(add, counted, n, SLICE(inputs[0]), SLICE(inputs[1]), SLICE(output), SLICE(words));
+    CALL(a2b, counted, n, SLICE(inputs[0]), SLICE(output), SLICE(words));
+    CALL(b2a, counted, n, SLICE(inputs[0]), SLICE(output), SLICE(words));
+    CALL(split_key, counted, n, SLICE(bytes), SLICE(output), SLICE(words));
+    CHANGE(sha1_compress, compressed, n, *a->chain, SLICE(inputs[0]), SLICE(words));
+    CALL(hmac_sha1, counted, n, SLICE(inputs[0]), SLICE(bytes), SLICE(tag), SLICE(words));
+    CHANGE(hmac_sha1_start, streamed, n, SLICE(inputs[0]), SLICE(words));
+    CHANGE(hmac_sha1_feed, streamed, whole(a), SLICE(bytes), SLICE(words));
+    CHANGE(hmac_sha1_finish, streamed, whole(a), SLICE(tag), SLICE(words));
     abort();
 }
 
 #define QUERY(function, ...) if (IS(function)) return counted(flamivorse_##function##_words(__VA_ARGS__))
 
 /* Asks how many words the call of this name draws. */
-outcome ask_by_c(const char *name, size_t n, size_t bytes)
+outcome ask_by_c(const char *name, outline state, size_t bytes)
 {
+    size_t n = state.n;
     QUERY(split, n);
     QUERY(refresh, n);
     QUERY(expand, n);
@@ -90,5 +134,8 @@ outcome ask_by_c(const char *name, size_t n, size_t bytes)
     QUERY(split_key, n, bytes);
     QUERY(sha1_compress, n);
     QUERY(hmac_sha1, n, bytes);
+    QUERY(hmac_sha1_start, n);
+    QUERY(hmac_sha1_feed, outlined(state), bytes);
+    QUERY(hmac_sha1_finish, outlined(state));
     abort();
 }

@@ -1,7 +1,7 @@
 //! The archive by C: by_c.c makes each call as include/flamivorse.h declares it.
 
 use crate::calls::Outcome;
-use crate::lent::{Arguments, Lent};
+use crate::lent::{Arguments, Lent, Outline};
 use std::ffi::{c_char, CString};
 
 #[repr(C)]
@@ -23,7 +23,7 @@ impl<T: Clone> From<&mut Lent<T>> for Slice<T> {
 /// `arguments` of by_c.c.
 #[repr(C)]
 struct Given {
-    n: usize,
+    state: Outline,
     values: [u32; 3],
     inputs: [Slice<u32>; 2],
     output: Slice<u32>,
@@ -31,11 +31,13 @@ struct Given {
     bytes: Slice<u8>,
     tag: Slice<u8>,
     chain: *mut u32,
+    outer: *mut u32,
+    tail: *mut u8,
 }
 
 extern "C" {
     fn make_by_c(name: *const c_char, arguments: *mut Given) -> Outcome;
-    fn ask_by_c(name: *const c_char, n: usize, bytes: usize) -> Outcome;
+    fn ask_by_c(name: *const c_char, state: Outline, bytes: usize) -> Outcome;
 }
 
 fn c_name(name: &str) -> CString {
@@ -45,7 +47,7 @@ fn c_name(name: &str) -> CString {
 /// Makes the call of this name.
 pub fn make(name: &str, a: &mut Arguments) -> Outcome {
     let mut given = Given {
-        n: a.n,
+        state: a.outline(),
         values: a.values,
         inputs: a.inputs.each_mut().map(Slice::from),
         output: (&mut a.output).into(),
@@ -53,14 +55,19 @@ pub fn make(name: &str, a: &mut Arguments) -> Outcome {
         bytes: (&mut a.bytes).into(),
         tag: (&mut a.tag).into(),
         chain: a.chain.slice_mut().as_mut_ptr(),
+        outer: a.outer.slice_mut().as_mut_ptr(),
+        tail: a.tail.slice_mut().as_mut_ptr(),
     };
     // SAFETY: each slice is a memory of its own, borrowed for the call, and no pointer is null,
-    // since the guards are always there. The chain has the words of the header's struct.
-    unsafe { make_by_c(c_name(name).as_ptr(), &mut given) }
+    // since the guards are always there. The chains and the tail have the lengths of the header's.
+    let outcome = unsafe { make_by_c(c_name(name).as_ptr(), &mut given) };
+    let Outline { n, fed, finished } = given.state;
+    (a.n, a.fed, a.finished) = (n, fed, finished);
+    outcome
 }
 
 /// Asks how many words the call of this name draws.
-pub fn ask(name: &str, n: usize, bytes: usize) -> Outcome {
+pub fn ask(name: &str, state: Outline, bytes: usize) -> Outcome {
     // SAFETY: it takes any numbers, and no memory but the name.
-    unsafe { ask_by_c(c_name(name).as_ptr(), n, bytes) }
+    unsafe { ask_by_c(c_name(name).as_ptr(), state, bytes) }
 }

@@ -2,9 +2,10 @@
 //! it.
 
 use crate::by_c;
-use crate::lent::{Arguments, Lengths};
+use crate::lent::{Arguments, Lengths, Outline};
+use crate::states::{by_archive, by_second};
 use flamivorse::{
-    Chain, Drawn, Refusal, A2B_2_STEPS, B2A_2_STEPS, KEY_LIMIT, MESSAGE_LIMIT, TAG_BYTES,
+    Chain, Drawn, Refusal, State, A2B_2_STEPS, B2A_2_STEPS, KEY_LIMIT, MESSAGE_LIMIT, TAG_BYTES,
 };
 
 /// The share counts that are not refused.
@@ -98,13 +99,15 @@ impl From<second::Opened> for Outcome {
 /// name.
 type Made = [fn(&mut Arguments) -> Outcome; 2];
 
-/// A query of both, of the share count and the number of bytes.
-type Query = [fn(usize, usize) -> Outcome; 2];
+/// A query of both, of a state, or the share count alone, and the number of bytes.
+type Query = [fn(Outline, usize) -> Outcome; 2];
 
 /// A call. What it does not take is 0 or none.
 pub struct Call {
     /// Its name in Rust; in C `flamivorse_` stands before it.
     pub name: &'static str,
+    /// Whether it takes a state.
+    pub on_state: bool,
     /// Words in each input, for each share.
     pub inputs: [usize; 2],
     /// The most bytes it takes.
@@ -120,16 +123,17 @@ pub struct Call {
 }
 
 impl Call {
-    /// The lengths that the call asks for.
-    pub fn lengths(&self, n: usize, bytes: usize) -> Lengths {
+    /// The lengths that the call asks for, on a state or at a share count.
+    pub fn lengths(&self, state: impl Into<Outline>, bytes: usize) -> Lengths {
+        let state = state.into();
         let words = self
             .query
-            .map_or(0, |[_, second]| second(n, bytes).count as usize);
-        let inputs = self.inputs.map(|words| words * n);
+            .map_or(0, |[_, second]| second(state, bytes).count as usize);
+        let inputs = self.inputs.map(|words| words * state.n);
         Lengths {
             inputs,
             bytes,
-            output: self.output * n + self.record,
+            output: self.output * state.n + self.record,
             tag: self.tag,
             words,
         }
@@ -155,16 +159,25 @@ impl Call {
         (outcome, ours)
     }
 
-    /// Asks both sides how many words the call draws, and compares what they tell. A call without
-    /// a query tells nothing. Panics where there is a difference.
-    pub fn compare_query(&self, target: Target, n: usize, bytes: usize) -> Option<Outcome> {
-        let [rust, second] = self.query?;
+    /// Asks both sides how many words the call draws, on a state or at a share count, and compares
+    /// what they tell. A call without a query tells nothing. Panics where there is a difference.
+    pub fn compare_query(
+        &self,
+        target: Target,
+        state: impl Into<Outline>,
+        bytes: usize,
+    ) -> Option<Outcome> {
+        let (state, [rust, second]) = (state.into(), self.query?);
         let outcome = match target {
-            Target::Rust => rust(n, bytes),
-            Target::C => by_c::ask(self.name, n, bytes),
+            Target::Rust => rust(state, bytes),
+            Target::C => by_c::ask(self.name, state, bytes),
         };
         let name = self.name;
-        assert_eq!(outcome, second(n, bytes), "{name}_words({n}, {bytes})");
+        assert_eq!(
+            outcome,
+            second(state, bytes),
+            "{name}_words({state:?}, {bytes})"
+        );
         Some(outcome)
     }
 }
@@ -201,6 +214,7 @@ fn second_compress(a: &mut Arguments) -> Outcome {
 /// What a call has where nothing else is said.
 const OPENING: Call = Call {
     name: "open_xor",
+    on_state: false,
     inputs: [1, 0],
     limit: None,
     output: 0,
@@ -273,7 +287,7 @@ pub static CALLS: [Call; 12] = [
         inputs: [0, 0],
         output: 1,
         made: both!(|a| split(a.n, a.values[0], a.output.slice_mut(), a.words.slice())),
-        query: Some(both!(|n, _bytes| split_words(n))),
+        query: Some(both!(|state, _bytes| split_words(state.n))),
         ..OPENING
     },
     Call {
@@ -285,7 +299,7 @@ pub static CALLS: [Call; 12] = [
             a.output.slice_mut(),
             a.words.slice()
         )),
-        query: Some(both!(|n, _bytes| refresh_words(n))),
+        query: Some(both!(|state, _bytes| refresh_words(state.n))),
         ..OPENING
     },
     Call {
@@ -297,7 +311,7 @@ pub static CALLS: [Call; 12] = [
             a.output.slice_mut(),
             a.words.slice()
         )),
-        query: Some(both!(|n, _bytes| expand_words(n))),
+        query: Some(both!(|state, _bytes| expand_words(state.n))),
         ..OPENING
     },
     Call {
@@ -311,7 +325,7 @@ pub static CALLS: [Call; 12] = [
             a.output.slice_mut(),
             a.words.slice()
         )),
-        query: Some(both!(|n, _bytes| and_words(n))),
+        query: Some(both!(|state, _bytes| and_words(state.n))),
         ..OPENING
     },
     Call {
@@ -325,7 +339,7 @@ pub static CALLS: [Call; 12] = [
             a.output.slice_mut(),
             a.words.slice()
         )),
-        query: Some(both!(|n, _bytes| add_words(n))),
+        query: Some(both!(|state, _bytes| add_words(state.n))),
         ..OPENING
     },
     Call {
@@ -337,7 +351,7 @@ pub static CALLS: [Call; 12] = [
             a.output.slice_mut(),
             a.words.slice()
         )),
-        query: Some(both!(|n, _bytes| a2b_words(n))),
+        query: Some(both!(|state, _bytes| a2b_words(state.n))),
         ..OPENING
     },
     Call {
@@ -349,7 +363,7 @@ pub static CALLS: [Call; 12] = [
             a.output.slice_mut(),
             a.words.slice()
         )),
-        query: Some(both!(|n, _bytes| b2a_words(n))),
+        query: Some(both!(|state, _bytes| b2a_words(state.n))),
         ..OPENING
     },
     Call {
@@ -358,14 +372,14 @@ pub static CALLS: [Call; 12] = [
         limit: Some(KEY_LIMIT),
         output: 16,
         made: both!(|a| split_key(a.n, a.bytes.slice(), a.output.slice_mut(), a.words.slice())),
-        query: Some(both!(|n, bytes| split_key_words(n, bytes))),
+        query: Some(both!(|state, bytes| split_key_words(state.n, bytes))),
         ..OPENING
     },
     Call {
         name: "sha1_compress",
         inputs: [16, 0],
         made: [archive_compress, second_compress],
-        query: Some(both!(|n, _bytes| sha1_compress_words(n))),
+        query: Some(both!(|state, _bytes| sha1_compress_words(state.n))),
         ..OPENING
     },
     Call {
@@ -380,7 +394,72 @@ pub static CALLS: [Call; 12] = [
             a.tag.slice_mut(),
             a.words.slice()
         )),
-        query: Some(both!(|n, bytes| hmac_sha1_words(n, bytes))),
+        query: Some(both!(|state, bytes| hmac_sha1_words(state.n, bytes))),
+        ..OPENING
+    },
+];
+
+/// The call of this name on a state in the archive and in `second`.
+macro_rules! on_state {
+    ($function:ident(|$a:ident| $argument:expr)) => {
+        [
+            |a| {
+                by_archive(a, State::from(&*a), |state, $a| {
+                    flamivorse::$function(state, $argument, $a.words.slice())
+                })
+            },
+            |a| {
+                by_second(a, |state, $a| {
+                    second::$function(state, $argument, $a.words.slice())
+                })
+            },
+        ]
+    };
+}
+
+/// Every call of a message in pieces. Where a start is refused the archive hands back zeros, and the
+/// safe call leaves the state as it came; so zeros are given to it.
+pub static STREAM_CALLS: [Call; 3] = [
+    Call {
+        name: "hmac_sha1_start",
+        inputs: [16, 0],
+        made: [
+            |a| {
+                by_archive(a, State::default(), |state, a| {
+                    flamivorse::hmac_sha1_start(a.n, a.inputs[0].slice(), state, a.words.slice())
+                })
+            },
+            |a| {
+                by_second(a, |_, a| {
+                    second::hmac_sha1_start(a.n, a.inputs[0].slice(), a.words.slice())
+                })
+            },
+        ],
+        query: Some(both!(|state, _bytes| hmac_sha1_start_words(state.n))),
+        ..OPENING
+    },
+    Call {
+        name: "hmac_sha1_feed",
+        on_state: true,
+        inputs: [0, 0],
+        limit: Some(MESSAGE_LIMIT),
+        made: on_state!(hmac_sha1_feed(|a| a.bytes.slice())),
+        query: Some([
+            |state, bytes| flamivorse::hmac_sha1_feed_words(&state.into(), bytes).into(),
+            |state, bytes| second::hmac_sha1_feed_words(state.into(), bytes).into(),
+        ]),
+        ..OPENING
+    },
+    Call {
+        name: "hmac_sha1_finish",
+        on_state: true,
+        inputs: [0, 0],
+        tag: TAG_BYTES,
+        made: on_state!(hmac_sha1_finish(|a| a.tag.slice_mut())),
+        query: Some([
+            |state, _bytes| flamivorse::hmac_sha1_finish_words(&state.into()).into(),
+            |state, _bytes| second::hmac_sha1_finish_words(state.into()).into(),
+        ]),
         ..OPENING
     },
 ];

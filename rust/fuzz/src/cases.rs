@@ -1,14 +1,21 @@
 //! Random cases: a call or a query with a share count, lengths and contents of any kind, right and
 //! wrong ones mixed. A seed and a number give the same case on every machine.
 
-use crate::calls::{Call, Outcome, Target, CALLS, COUNTS, TWO_SHARE_CALLS, WRONG_COUNTS};
-use crate::lent::{Arguments, Lengths};
+use crate::calls::{
+    Call, Outcome, Target, CALLS, COUNTS, STREAM_CALLS, TWO_SHARE_CALLS, WRONG_COUNTS,
+};
+use crate::lent::{Arguments, Lengths, Outline};
 use crate::random::Random;
+use flamivorse::MESSAGE_LIMIT;
+
+/// Every so manieth case is of a message in pieces. The number decides, and nothing drawn, so that
+/// all other cases are what they would be without these.
+const STREAMED: u32 = 24;
 
 /// What is asked of a call: to be made, or how many words it draws.
 enum Asked {
-    Made(Arguments),
-    Query { n: usize, bytes: usize },
+    Made(Box<Arguments>),
+    Query { state: Outline, bytes: usize },
 }
 
 /// A call or a query, and its arguments.
@@ -21,10 +28,13 @@ impl Case {
     /// The case of this number.
     pub fn new(seed: u32, number: u32) -> Case {
         let mut random = Random::new(u64::from(seed) << 32 | u64::from(number));
-        if random.below(8) == 0 {
-            query(&mut random)
-        } else {
-            made(&mut random)
+        let streamed = number % STREAMED == STREAMED - 1;
+        let queried = random.below(8) == 0;
+        match (streamed, queried) {
+            (false, false) => made(&mut random),
+            (false, true) => query(&mut random),
+            (true, false) => made_on_state(&mut random),
+            (true, true) => query_on_state(&mut random),
         }
     }
 
@@ -38,9 +48,9 @@ impl Case {
     pub fn compare(&self, target: Target) -> Outcome {
         match &self.asked {
             Asked::Made(arguments) => self.call.compare(target, arguments).0,
-            Asked::Query { n, bytes } => self
+            Asked::Query { state, bytes } => self
                 .call
-                .compare_query(target, *n, *bytes)
+                .compare_query(target, *state, *bytes)
                 .expect("a call that has a query"),
         }
     }
@@ -51,15 +61,29 @@ fn query(random: &mut Random) -> Case {
     let asked: Vec<&Call> = CALLS.iter().filter(|call| call.query.is_some()).collect();
     let call = asked[random.below(asked.len())];
     let fitting = fitting(call, random);
-    let n = count(fitting, random);
-    let bytes = match random.below(8) {
+    let state = count(fitting, random).into();
+    let bytes = asked_length(random, |random| bytes(call, random));
+    let asked = Asked::Query { state, bytes };
+    Case { call, asked }
+}
+
+/// A query on a state.
+fn query_on_state(random: &mut Random) -> Case {
+    let call = &STREAM_CALLS[random.below(STREAM_CALLS.len())];
+    let state = with_count(made_up(call, random), random);
+    let bytes = asked_length(random, |random| piece(call, state.fed, random));
+    let asked = Asked::Query { state, bytes };
+    Case { call, asked }
+}
+
+/// A length of the kind that slices have, or any other; some wrap when they are added to another.
+fn asked_length(random: &mut Random, length: impl Fn(&mut Random) -> usize) -> usize {
+    match random.below(8) {
         0 => random.number(),
         1 => usize::MAX - random.below(64),
-        2 => bytes(call, random) + (1 << 32),
-        _ => bytes(call, random),
-    };
-    let asked = Asked::Query { n, bytes };
-    Case { call, asked }
+        2 => length(random) + (1 << 32),
+        _ => length(random),
+    }
 }
 
 /// A call with its arguments, a quarter of them words at the edges of the range.
@@ -72,13 +96,91 @@ fn made(random: &mut Random) -> Case {
     if random.below(4) == 0 {
         arguments.to_edges(random);
     }
-    let asked = Asked::Made(arguments);
+    let asked = Asked::Made(arguments.into());
     Case { call, asked }
+}
+
+/// A call of a message in pieces on any state, likewise. Most are feeds.
+fn made_on_state(random: &mut Random) -> Case {
+    let call = &STREAM_CALLS[[0, 1, 1, 1, 1, 1, 2, 2][random.below(8)]];
+    let state = made_up(call, random);
+    let right = call.lengths(state, piece(call, state.fed, random));
+    let mut arguments = Arguments::random(state.n, lengths(right, random), random);
+    arguments.make_up(with_count(state, random), random);
+    if random.below(4) == 0 {
+        arguments.to_edges(random);
+    }
+    let asked = Asked::Made(arguments.into());
+    Case { call, asked }
+}
+
+/// A state, mostly a fit one.
+fn made_up(call: &Call, random: &mut Random) -> Outline {
+    Outline {
+        n: fitting(call, random),
+        fed: fed(random),
+        finished: mark(random),
+    }
+}
+
+/// The same with the share count that is given.
+fn with_count(state: Outline, random: &mut Random) -> Outline {
+    let n = count(state.n, random);
+    Outline { n, ..state }
+}
+
+/// How many bytes a state has: few, nearly all, or around the ends of blocks and of their padding;
+/// or too many, some of which are few where a number is cut or a sum wraps.
+fn fed(random: &mut Random) -> u64 {
+    let (limit, few) = (MESSAGE_LIMIT as u64, random.below(200) as u64);
+    match random.below(32) {
+        0 => limit + 1 + few,
+        1 => u64::MAX - few,
+        2 => random.number() as u64,
+        3 => (1 << (32 + random.below(32))) + few,
+        4 => random.below(MESSAGE_LIMIT + 1) as u64,
+        5 | 6 => limit,
+        7..=12 => limit - few,
+        13..=18 => (64 * random.below(64) + [0, 1, 55, 56, 63][random.below(5)]) as u64,
+        19 | 20 => 0,
+        _ => few,
+    }
+}
+
+/// The mark of a state: mostly none; else one that a finish makes, one bit, or any.
+fn mark(random: &mut Random) -> u32 {
+    match random.below(64) {
+        0 | 1 => 1,
+        2 => 1 << random.below(32),
+        3 => random.word(),
+        _ => 0,
+    }
+}
+
+/// How long a piece is: mostly short; else around the end of the block, or of the limit, or any.
+fn piece(call: &Call, fed: u64, random: &mut Random) -> usize {
+    if call.limit.is_none() {
+        return 0;
+    }
+    let short = random.below(201);
+    let block = 64 - fed as usize % 64;
+    let rest = MESSAGE_LIMIT.saturating_sub(fed as usize);
+    match random.below(24) {
+        0 => MESSAGE_LIMIT + random.below(2),
+        1 => MESSAGE_LIMIT + 2 + random.below(MESSAGE_LIMIT),
+        2 => rest + 1 + random.below(2),
+        3 if random.below(8) == 0 => rest.saturating_sub(random.below(2)),
+        4 if random.below(8) == 0 => random.below(rest + 1),
+        5..=7 if rest < 200 => rest.saturating_sub(random.below(2)),
+        8..=12 => block + random.below(3) - 1,
+        13 => 0,
+        _ => short,
+    }
 }
 
 /// Whether a call takes so long that it is to be made seldom.
 fn is_slow(call: &Call) -> bool {
-    matches!(call.name, "sha1_compress" | "hmac_sha1")
+    call.name.contains("sha1")
 }
 
 /// Any call. Of the slow ones most are put back.
@@ -176,28 +278,32 @@ mod tests {
     const HEADER: &str = include_str!("../../../include/flamivorse.h");
 
     /// The numbers that a call can give, by what it takes.
-    fn possible(call: &Call, counted: bool) -> [bool; 6] {
+    fn possible(call: &Call, counted: bool) -> [bool; 7] {
         [
             true,
-            counted,
+            counted && !call.on_state,
             call.inputs != [0, 0],
             call.output + call.record + call.tag > 0,
             call.limit.is_some(),
             call.query.is_some(),
+            call.on_state,
         ]
     }
 
+    /// The same of its query.
+    fn possible_asked(call: &Call) -> [bool; 7] {
+        let (state, long) = (call.on_state, call.limit.is_some());
+        [true, !state, false, false, long, false, state]
+    }
+
     /// The same for every function.
-    fn all_possible() -> BTreeMap<String, [bool; 6]> {
+    fn all_possible() -> BTreeMap<String, [bool; 7]> {
         let two = TWO_SHARE_CALLS.iter();
         let two = two.map(|call| (call.name.into(), possible(call, false)));
-        let calls = CALLS.iter();
+        let calls = CALLS.iter().chain(&STREAM_CALLS);
+        let queries = calls.clone().filter(|call| call.query.is_some());
         let calls = calls.map(|call| (call.name.into(), possible(call, true)));
-        let queries = CALLS.iter().filter(|call| call.query.is_some());
-        let queries = queries.map(|call| {
-            let numbers = [true, true, false, false, call.limit.is_some(), false];
-            (format!("{}_words", call.name), numbers)
-        });
+        let queries = queries.map(|call| (format!("{}_words", call.name), possible_asked(call)));
         two.chain(calls).chain(queries).collect()
     }
 

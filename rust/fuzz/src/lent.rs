@@ -9,6 +9,9 @@ const GUARD: usize = 8;
 /// How many words a chain has.
 const CHAIN: usize = 40;
 
+/// How many bytes the tail of a state has.
+const TAIL: usize = 64;
+
 /// A slice inside guard elements. Comparing two compares the guards too.
 #[derive(Clone, PartialEq)]
 pub struct Lent<T> {
@@ -44,6 +47,14 @@ impl<T: Clone> Lent<T> {
         Lent { memory }
     }
 
+    /// Zeros, the guards too.
+    fn zeros(length: usize) -> Lent<T>
+    where
+        T: Default,
+    {
+        Lent::inside(vec![T::default(); length + 2 * GUARD])
+    }
+
     pub fn slice(&self) -> &[T] {
         &self.memory[GUARD..self.memory.len() - GUARD]
     }
@@ -58,18 +69,52 @@ impl<T: Clone> Lent<T> {
         let guard = self.memory[self.memory.len() - 1].clone();
         self.memory.resize(length + 2 * GUARD, guard);
     }
+
+    /// Lends these elements in place of those there were, inside the same guards.
+    pub fn hold(&mut self, elements: &[T]) {
+        let end = self.memory.len() - GUARD;
+        self.memory.splice(GUARD..end, elements.iter().cloned());
+    }
+}
+
+/// What a query looks at of a state: its share count, its bytes so far and its mark. Calls without a
+/// state have the share count alone.
+#[repr(C)]
+#[derive(Clone, Copy, Debug)]
+pub struct Outline {
+    pub n: usize,
+    pub fed: u64,
+    pub finished: u32,
+}
+
+/// With so many shares, before the first byte.
+impl From<usize> for Outline {
+    fn from(n: usize) -> Outline {
+        Outline {
+            n,
+            fed: 0,
+            finished: 0,
+        }
+    }
 }
 
 /// All that a call can be lent, and its numbers. Each call takes what it needs.
 #[derive(Clone, Debug, PartialEq)]
 pub struct Arguments {
+    /// The share count; of a call on a state, the state's.
     pub n: usize,
+    /// Bytes so far and the mark of a state.
+    pub fed: u64,
+    pub finished: u32,
     /// The value to split; x or a, r and g of the two-share forms.
     pub values: [u32; 3],
     pub inputs: [Lent<u32>; 2],
     pub bytes: Lent<u8>,
-    /// The chain of a compression, which the call takes and hands back by value.
+    /// The chain of a compression, or the inner one of a state, and the rest of a state: what a call
+    /// takes and hands back by value.
     pub chain: Lent<u32>,
+    pub outer: Lent<u32>,
+    pub tail: Lent<u8>,
     pub output: Lent<u32>,
     pub tag: Lent<u8>,
     pub words: Lent<u32>,
@@ -86,7 +131,7 @@ pub struct Lengths {
 }
 
 impl Arguments {
-    /// Random contents in slices of these lengths.
+    /// Random contents in slices of these lengths. What a state has beside its inner chain is 0.
     pub fn random(n: usize, lengths: Lengths, random: &mut Random) -> Arguments {
         let mut words = |length| Lent::inside(random.words(length + 2 * GUARD));
         let inputs = lengths.inputs.map(&mut words);
@@ -98,14 +143,25 @@ impl Arguments {
         let values = std::array::from_fn(|_| random.word());
         Arguments {
             n,
+            fed: 0,
+            finished: 0,
             values,
             inputs,
             bytes: message,
             chain,
+            outer: Lent::zeros(CHAIN),
+            tail: Lent::zeros(TAIL),
             output,
             tag,
             words,
         }
+    }
+
+    /// Makes a state up: of this outline, with anything in all its places and around them.
+    pub fn make_up(&mut self, state: Outline, random: &mut Random) {
+        (self.n, self.fed, self.finished) = (state.n, state.fed, state.finished);
+        self.outer.memory.fill_with(|| random.word());
+        self.tail.memory.fill_with(|| random.word() as u8);
     }
 
     /// Puts words at the edges of the range in place of all that a call reads, but for bytes.
@@ -115,6 +171,7 @@ impl Arguments {
             read.slice_mut().fill_with(|| random.edge());
         }
         self.values.fill_with(|| random.edge());
+        self.outer.slice_mut().fill_with(|| random.edge());
     }
 
     /// The chain's words.
@@ -122,22 +179,39 @@ impl Arguments {
         self.chain.slice().try_into().expect("a chain's length")
     }
 
-    /// The slices that differ, each with the first place where it does.
+    /// The outline of the state.
+    pub fn outline(&self) -> Outline {
+        Outline {
+            n: self.n,
+            fed: self.fed,
+            finished: self.finished,
+        }
+    }
+
+    /// The numbers and slices that differ, each slice with the first place where it does.
     pub fn differences(&self, other: &Arguments) -> Vec<(&'static str, isize)> {
+        let numbers = [
+            ("n", self.n as u64, other.n as u64),
+            ("fed", self.fed, other.fed),
+            ("finished", self.finished.into(), other.finished.into()),
+        ];
         let words = [
             ("input 1", &self.inputs[0], &other.inputs[0]),
             ("input 2", &self.inputs[1], &other.inputs[1]),
             ("output", &self.output, &other.output),
             ("chain", &self.chain, &other.chain),
+            ("outer", &self.outer, &other.outer),
             ("words", &self.words, &other.words),
         ];
         let bytes = [
             ("bytes", &self.bytes, &other.bytes),
             ("tag", &self.tag, &other.tag),
+            ("tail", &self.tail, &other.tail),
         ];
+        let numbers = numbers.map(|(name, a, b)| (name, (a != b).then_some(0)));
         let words = words.map(|(name, a, b)| (name, a.first_difference(b)));
         let bytes = bytes.map(|(name, a, b)| (name, a.first_difference(b)));
-        let all = words.into_iter().chain(bytes);
+        let all = numbers.into_iter().chain(words).chain(bytes);
         all.filter_map(|(name, place)| Some((name, place?)))
             .collect()
     }

@@ -7,4 +7,5 @@ pub mod calls;
 pub mod cases;
 pub mod lent;
 pub mod random;
+mod states;
 pub mod tally;

@@ -3,7 +3,8 @@
 /// Words at the edges of the range.
 pub const EDGES: [u32; 5] = [0, 1, 0x7fff_ffff, 0x8000_0000, 0xffff_ffff];
 
-/// A generator.
+/// A generator. A copy gives the same values again.
+#[derive(Clone)]
 pub struct Random(u64);
 
 impl Random {

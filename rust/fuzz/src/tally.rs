@@ -3,21 +3,24 @@
 use std::collections::BTreeMap;
 use std::fmt;
 
-/// For each function, how often each of the numbers 0 to 5 was given.
+/// How often each of the numbers 0 to 6 was given.
+pub type Counts = [usize; 7];
+
+/// The counts of each function.
 #[derive(Default)]
-pub struct Tally(BTreeMap<String, [usize; 6]>);
+pub struct Tally(BTreeMap<String, Counts>);
 
 impl Tally {
     pub fn add(&mut self, name: String, number: u32) {
         self.0.entry(name).or_default()[number as usize] += 1;
     }
 
-    pub fn calls(&self) -> impl Iterator<Item = (&str, [usize; 6])> {
+    pub fn calls(&self) -> impl Iterator<Item = (&str, Counts)> {
         self.0.iter().map(|(name, counts)| (name.as_str(), *counts))
     }
 
-    fn total(&self) -> [usize; 6] {
-        let mut total = [0; 6];
+    fn total(&self) -> Counts {
+        let mut total = Counts::default();
         for (_, counts) in self.calls() {
             total
                 .iter_mut()
@@ -29,7 +32,7 @@ impl Tally {
 }
 
 /// A line: all calls, then those accepted and those refused with each number.
-fn line(f: &mut fmt::Formatter<'_>, name: &str, counts: [usize; 6]) -> fmt::Result {
+fn line(f: &mut fmt::Formatter<'_>, name: &str, counts: Counts) -> fmt::Result {
     let [accepted, refused @ ..] = counts;
     let all: usize = counts.iter().sum();
     write!(f, "{name}: {all}, accepted {accepted}, refused")?;

@@ -1,0 +1,195 @@
+//! However a message is cut, its end state is the same for the same words, and its tag is that of the
+//! one-call form and of RustCrypto.
+
+use crate::{report, FEED, FINISH, START, TARGETS};
+use flamivorse::{KEY_LIMIT, MESSAGE_LIMIT};
+use fuzz::calls::{Call, Target, CALLS, COUNTS};
+use fuzz::lent::{Arguments, Lengths};
+use fuzz::random::Random;
+use hmac::{Hmac, Mac};
+use sha1::Sha1;
+
+const RFC_2202: &str = include_str!("../../../../crates/rfc2202/data/cases.txt");
+
+/// The tag by RustCrypto.
+fn outside_tag(key: &[u8], message: &[u8]) -> Vec<u8> {
+    let mut hmac = Hmac::<Sha1>::new_from_slice(key).expect("HMAC takes any key");
+    hmac.update(message);
+    hmac.finalize().into_bytes().to_vec()
+}
+
+/// The call of this name on n shares.
+fn named(name: &str) -> &'static Call {
+    CALLS.iter().find(|call| call.name == name).expect(name)
+}
+
+/// A message on its way: all that its calls are lent, the state among it, and the words to come.
+#[derive(Clone)]
+struct Run {
+    target: Target,
+    lent: Arguments,
+    words: Random,
+    drawn: u64,
+}
+
+impl Run {
+    /// Before the start, under this key.
+    fn new(target: Target, n: usize, key: &[u8]) -> Run {
+        let (split_key, mut random) = (named("split_key"), Random::new(600));
+        let mut lent = Arguments::random(n, split_key.lengths(n, key.len()), &mut random);
+        lent.bytes.hold(key);
+        let (outcome, split) = split_key.compare(target, &lent);
+        assert_eq!(outcome.number, 0);
+        let lengths = Lengths {
+            tag: FINISH.tag,
+            ..START.lengths(n, 0)
+        };
+        let mut lent = Arguments::random(n, lengths, &mut random);
+        lent.inputs[0].hold(split.output.slice());
+        Run {
+            target,
+            lent,
+            words: random,
+            drawn: 0,
+        }
+    }
+
+    /// Makes a call with exactly the words that its query tells, now and then with more.
+    fn make(&mut self, call: &Call, piece: &[u8]) {
+        let asked = call.compare_query(self.target, self.lent.outline(), piece.len());
+        let need = asked.expect("a call that has a query");
+        let words = self.words.words(need.count as usize);
+        self.lent.bytes.hold(piece);
+        self.lent.words.hold(&words);
+        if self.lent.fed % 3 == 1 {
+            self.lent.words.resize(words.len() + 5);
+        }
+        let (outcome, after) = call.compare(self.target, &self.lent);
+        assert_eq!((outcome.number, outcome), (0, need), "{}", call.name);
+        self.lent = after;
+        self.drawn += need.count;
+    }
+
+    /// Feeds a message in pieces of these lengths.
+    fn feed(&mut self, message: &[u8], lengths: &[usize]) {
+        let mut rest = message;
+        for &length in lengths {
+            let (piece, after) = rest.split_at(length);
+            self.make(FEED, piece);
+            rest = after;
+        }
+        assert!(rest.is_empty());
+    }
+
+    /// Compares the end of two runs: the state, field by field, and how many words were drawn.
+    fn ends_as(&self, other: &Run) -> bool {
+        let (a, b) = (&self.lent, &other.lent);
+        let numbers = (a.n, a.fed, a.finished) == (b.n, b.fed, b.finished);
+        let chains = (&a.chain, &a.outer) == (&b.chain, &b.outer);
+        numbers && chains && a.tail == b.tail && self.drawn == other.drawn
+    }
+}
+
+/// Compares every one of these cuts with the first, with the one-call form and with RustCrypto.
+fn compare_cuts(n: usize, key: &[u8], message: &[u8], cuts: &[Vec<usize>]) -> usize {
+    let tag = outside_tag(key, message);
+    for target in TARGETS {
+        let mut started = Run::new(target, n, key);
+        let mut whole = started.clone();
+        whole.make(named("hmac_sha1"), message);
+        assert_eq!(whole.lent.tag.slice(), tag);
+        started.make(START, &[]);
+        let mut first: Option<Run> = None;
+        for lengths in cuts {
+            let mut run = started.clone();
+            run.feed(message, lengths);
+            let same = run.ends_as(first.get_or_insert(run.clone()));
+            assert!(same, "{lengths:?} at n = {n}");
+            run.make(FINISH, &[]);
+            assert_eq!(run.lent.tag.slice(), tag, "{lengths:?} at n = {n}");
+            assert_eq!(run.drawn, whole.drawn);
+        }
+    }
+    TARGETS.len() * cuts.len()
+}
+
+/// The bytes that a text of hexadecimal digits stands for.
+fn bytes_of(digits: &str) -> Vec<u8> {
+    let pairs = (0..digits.len()).step_by(2);
+    let byte = |at| u8::from_str_radix(&digits[at..at + 2], 16).expect("two digits");
+    pairs.map(byte).collect()
+}
+
+/// The cases of RFC 2202 that the key limit allows: key, message, tag.
+fn rfc2202() -> [[Vec<u8>; 3]; 5] {
+    let lines = RFC_2202.lines().filter(|line| !line.starts_with('#'));
+    let lines = lines.filter(|line| !line.is_empty());
+    let fields = |line: &str| {
+        let fields: Vec<_> = line.split(' ').skip(1).map(bytes_of).collect();
+        fields.try_into().expect("three fields after the number")
+    };
+    let cases: Vec<_> = lines.map(fields).collect();
+    cases.try_into().expect("five cases")
+}
+
+/// Every cut in two, empty pieces among them, and single bytes.
+fn every_cut(length: usize) -> Vec<Vec<usize>> {
+    let in_two = (0..=length).map(|first| vec![first, length - first]);
+    in_two.chain([vec![1; length]]).collect()
+}
+
+#[test]
+fn every_cut_of_rfc_2202() {
+    let mut cases = 0;
+    for [key, message, tag] in rfc2202() {
+        assert_eq!(outside_tag(&key, &message), tag);
+        for n in COUNTS {
+            cases += compare_cuts(n, &key, &message, &every_cut(message.len()));
+        }
+    }
+    report(cases, "cuts of RFC 2202 by Rust and C, against second");
+}
+
+/// Pieces of lengths that are drawn one by one, from what is left.
+fn pieces(length: usize, mut next: impl FnMut(usize) -> usize) -> Vec<usize> {
+    let (mut lengths, mut rest) = (vec![], length);
+    while rest > 0 {
+        let piece = next(rest).min(rest);
+        lengths.push(piece);
+        rest -= piece;
+    }
+    lengths
+}
+
+/// Single bytes; pieces around a block; any, a third of them empty; the whole.
+fn some_cuts(length: usize, random: &mut Random) -> [Vec<usize>; 4] {
+    let around = pieces(length, |_| 62 + random.below(5));
+    let any = pieces(length, |rest| {
+        let most = [0, 130, rest][random.below(3)];
+        random.below(most + 1)
+    });
+    [vec![1; length], around, any, vec![length]]
+}
+
+/// At each share count lengths around the ends of blocks and of their padding, then any, and the
+/// longest; of these fewer, and fewer cuts, the more words they draw.
+#[test]
+fn cuts_of_random_messages() {
+    let mut random = Random::new(601);
+    let mut cases = 0;
+    for (n, (any, most)) in COUNTS.into_iter().zip([(2, 4), (1, 4), (1, 3), (0, 2)]) {
+        let edges = [0, 55, 56, 64, 65, 183].map(|length| (length, 4));
+        let any = (0..any).map(|_| (random.below(MESSAGE_LIMIT), most));
+        let any: Vec<_> = any.chain([(MESSAGE_LIMIT, most)]).collect();
+        for (length, cuts) in edges.into_iter().chain(any) {
+            let key = random.below(KEY_LIMIT + 1);
+            let (key, message) = (random.bytes(key), random.bytes(length));
+            let lengths = some_cuts(length, &mut random);
+            cases += compare_cuts(n, &key, &message, &lengths[..cuts]);
+        }
+    }
+    report(
+        cases,
+        "cuts of random messages by Rust and C, against second",
+    );
+}

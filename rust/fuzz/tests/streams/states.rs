@@ -1,0 +1,199 @@
+//! States of any kind: what is not read of them has no say, and is 0 after a start or a feed; a
+//! refusal and a finish hand them back as they came; which fault is told first; the queries.
+
+use crate::{report, FEED, FINISH, START, TARGETS};
+use flamivorse::MESSAGE_LIMIT;
+use fuzz::calls::{refused, Call, Outcome, Target, COUNTS, STREAM_CALLS, WRONG_COUNTS};
+use fuzz::lent::{Arguments, Outline};
+use fuzz::random::Random;
+
+/// Where the places of a state begin that are not read: in its chains, and in its tail.
+fn unread(state: Outline) -> (usize, usize) {
+    match state.finished == 0 && COUNTS.contains(&state.n) && state.fed <= MESSAGE_LIMIT as u64 {
+        true => (5 * state.n, state.fed as usize % 64),
+        false => (0, 0),
+    }
+}
+
+/// Whether these places are 0.
+fn is_cleared(state: &Arguments) -> bool {
+    let (words, bytes) = unread(state.outline());
+    let mut chains = [&state.chain, &state.outer].into_iter();
+    chains.all(|chain| chain.slice()[words..].iter().all(|&word| word == 0))
+        && state.tail.slice()[bytes..].iter().all(|&byte| byte == 0)
+}
+
+/// Whether the state came back as it was, but for the mark of an accepted finish, and no slice but
+/// that one's tag is another.
+fn is_kept(given: &Arguments, outcome: Outcome, after: &Arguments) -> bool {
+    let mut expected = given.clone();
+    if outcome.number == 0 {
+        expected.finished = 1;
+        expected.tag = after.tag.clone();
+    }
+    *after == expected
+}
+
+/// Makes a call twice, the second time with other contents in the places that are not read: both
+/// answers are the same, but for the state that a refusal and a finish hand back as it came.
+fn compare_unread(call: &Call, target: Target, given: &Arguments, random: &mut Random) -> Outcome {
+    let (words, bytes) = unread(given.outline());
+    let mut other = given.clone();
+    for chain in [&mut other.chain, &mut other.outer] {
+        chain.slice_mut()[words..].fill_with(|| random.word());
+    }
+    other.tail.slice_mut()[bytes..].fill_with(|| random.word() as u8);
+    let (outcome, after) = call.compare(target, given);
+    let (again, other_after) = call.compare(target, &other);
+    assert_eq!(outcome, again);
+    if call.on_state && (outcome.number != 0 || call.tag > 0) {
+        assert!(is_kept(given, outcome, &after) && is_kept(&other, outcome, &other_after));
+        assert!(after.tag == other_after.tag);
+    } else {
+        assert!(is_cleared(&after) && after == other_after);
+    }
+    outcome
+}
+
+/// A call on this state, made with the words that it draws and, where it draws any, with one less.
+/// Gives how many cases that were.
+fn compare_supplies(call: &Call, state: Outline, piece: usize, random: &mut Random) -> usize {
+    let mut given = Arguments::random(state.n, call.lengths(state, piece), random);
+    given.make_up(state, random);
+    let drawn = given.words.slice().len();
+    let mut short = given.clone();
+    short.words.resize(drawn.saturating_sub(1));
+    for target in TARGETS {
+        let outcome = compare_unread(call, target, &given, random);
+        assert_eq!((outcome.number, outcome.count), (0, drawn as u64));
+        if drawn > 0 {
+            let outcome = compare_unread(call, target, &short, random);
+            assert_eq!(outcome, refused(5));
+        }
+    }
+    TARGETS.len() * (1 + usize::from(drawn > 0))
+}
+
+/// Bytes so far and the next piece: that ends before a block does, with it, and after it; with an
+/// empty tail; with padding of two blocks; up to the limit, and at it.
+const FIT: [(u64, usize); 7] = [
+    (3, 60),
+    (3, 61),
+    (63, 66),
+    (0, 0),
+    (119, 0),
+    (4000, 96),
+    (4096, 0),
+];
+
+#[test]
+fn unread_places_have_no_say() {
+    let mut random = Random::new(602);
+    let mut cases = 0;
+    for n in COUNTS {
+        for (fed, piece) in FIT {
+            let state = Outline { fed, ..n.into() };
+            for call in &STREAM_CALLS {
+                cases += compare_supplies(call, state, piece, &mut random);
+            }
+        }
+    }
+    report(cases, "states with anything in the places not read");
+}
+
+/// States of n shares: a fit one, and unfit ones by their share count, their bytes and their mark.
+fn states(n: usize) -> Vec<Outline> {
+    let fit = Outline {
+        n,
+        fed: 70,
+        finished: 0,
+    };
+    let counts = WRONG_COUNTS.map(|n| Outline { n, ..fit });
+    let bytes = [4097, 70 + (1 << 32), u64::MAX].map(|fed| Outline { fed, ..fit });
+    let marks = [1, 2, 1 << 31, u32::MAX].map(|finished| Outline { finished, ..fit });
+    let unfit = counts.into_iter().chain(bytes).chain(marks);
+    [fit].into_iter().chain(unfit).collect()
+}
+
+/// Which of the numbers is told first where the state is unfit, where the piece is too long or the
+/// tag has another length, and where there is a word too few.
+fn first(call: &Call, [unfit, wrong, short]: [bool; 3]) -> u32 {
+    match (unfit, wrong, short) {
+        (true, _, _) => 6,
+        (_, true, _) if call.tag > 0 => 3,
+        (_, true, _) => 4,
+        (_, _, true) => 5,
+        _ => 0,
+    }
+}
+
+/// A feed or a finish on each of these states, the first of which is fit, with these two faults.
+fn compare_faults(
+    call: &Call,
+    states: &[Outline],
+    wrong: bool,
+    short: bool,
+    random: &mut Random,
+) -> usize {
+    let mut lengths = call.lengths(states[0], 64);
+    if wrong {
+        (lengths.bytes, lengths.tag) = (MESSAGE_LIMIT - 69, call.tag.saturating_sub(1));
+    }
+    let short = short && lengths.words > 0;
+    lengths.words -= usize::from(short);
+    for (place, &state) in states.iter().enumerate() {
+        let mut given = Arguments::random(state.n, lengths, random);
+        given.make_up(state, random);
+        for target in TARGETS {
+            let outcome = compare_unread(call, target, &given, random);
+            assert_eq!(outcome.number, first(call, [place > 0, wrong, short]));
+        }
+    }
+    TARGETS.len() * states.len()
+}
+
+#[test]
+fn every_combination_of_faults() {
+    let mut random = Random::new(603);
+    let mut cases = 0;
+    for states in COUNTS.map(states) {
+        for call in [FEED, FINISH] {
+            for faults in 0..4 {
+                let (wrong, short) = (faults & 1 > 0, faults & 2 > 0);
+                cases += compare_faults(call, &states, wrong, short, &mut random);
+            }
+        }
+    }
+    report(cases, "feeds and finishes with every combination of faults");
+}
+
+/// Numbers of bytes from 0 on, around the limit, and at the ends of 32 and 64 bits.
+fn lengths() -> impl Iterator<Item = u64> {
+    let edges = [MESSAGE_LIMIT as u64, 1 << 32, u64::MAX];
+    let around = edges.map(|edge| edge - 66..=edge.saturating_add(1));
+    (0..=130).chain(around.into_iter().flatten())
+}
+
+/// Asks each call on a state how many words it draws, for pieces of many lengths.
+fn compare_queries(target: Target, state: Outline) -> usize {
+    START.compare_query(target, state, 0);
+    FINISH.compare_query(target, state, 0);
+    let pieces = lengths().step_by(5);
+    let fed = pieces.map(|piece| FEED.compare_query(target, state, piece as usize));
+    2 + fed.count()
+}
+
+#[test]
+fn queries() {
+    let mut asked = 0;
+    for n in COUNTS.into_iter().chain(WRONG_COUNTS) {
+        for (fed, finished) in lengths().flat_map(|fed| [(fed, 0), (fed, 1)]) {
+            let state = Outline { n, fed, finished };
+            asked += TARGETS
+                .map(|target| compare_queries(target, state))
+                .iter()
+                .sum::<usize>();
+        }
+    }
+    println!("queries: {asked}, on states, against second");
+}
