@@ -337,7 +337,7 @@ module _ (n : ℕ) (key ws : List ℕ) (words : Words 32 key) (accepted : startC
   streamed-tag-is-one-call came vs other us h g =
       streamed-tag-is-rfc2104 came vs h ∙ sym (one-call-tag n key (message fs) words bytes other us g)
 
--- ==== No two differing outcomes satisfy one promise: in general, and of a tag
+-- ==== No two differing outcomes satisfy one promise: in general, of a tag, and of a finish
 pub no-two-outcomes : {O : Type 0} (promised one other : O) → promised ≡ one → promised ≡ other → one ≡ other
 no-two-outcomes = one-outcome
 
@@ -346,6 +346,12 @@ pub no-two-tags : (n : ℕ) (key text came ws tag tag′ : List ℕ) (answer ans
     → (answer ≡ answer′) × (tag ≡ tag′)
 no-two-tags n key text came ws tag tag′ answer answer′ p q =
     let e = no-two-outcomes (hmacCall 32 n key text came ws) (answer, tag) (answer′, tag′) p q in
+    (ap (λ o. o .0) e, ap (λ o. o .1) e)
+
+pub no-two-finishes : (s : State) (came ws tag tag′ : List ℕ) (r r′ : Streamed)
+    → finishCall (sha1 32) s came ws ≡ (r, tag) → finishCall (sha1 32) s came ws ≡ (r′, tag′) → (r ≡ r′) × (tag ≡ tag′)
+no-two-finishes s came ws tag tag′ r r′ p q =
+    let e = no-two-outcomes (finishCall (sha1 32) s came ws) (r, tag) (r′, tag′) p q in
     (ap (λ o. o .0) e, ap (λ o. o .1) e)
 
 -- ==== The standards, computed: FIPS 180's example "abc", and case 1 of RFC 2202
