@@ -1,7 +1,11 @@
 """The calls of the archive that work on shares, the long ones first. The queries take no secret."""
+import struct
 from dataclasses import replace
 
-from inputs import Call, FreshWord, FreshWords, Number, Result, Room, Secret, Share, Shares, SharesByValue, Text
+from inputs import BytesByValue, Call, FreshWord, FreshWords, Number, Result, Room
+from inputs import Secret, Share, Shares, SharesByValue, Text
+
+STREAMED = Result(106)  # number, count and state
 
 
 def add_words(n):
@@ -44,6 +48,34 @@ def sha1_compress(n, quick=0, deep=0):
     arguments = (Result(44), Number(n), SharesByValue(chain, 40), Shares(block), FreshWords(compress_words(n)))
     kept = {"quick": quick, "deep": deep, **sampled(n, 10007 * n, least=1)}
     return Call(f"sha1_compress, {n} shares", "flamivorse_sha1_compress", arguments, number=0, leaves=True, **kept)
+
+
+def state(n, fed):
+    """A state after so many bytes, a struct passed by value. Its chains are secrets; the message never is one."""
+    inner, outer = (SharesByValue(Secret(name, n, words=5), 40) for name in ("inner", "outer"))
+    tail = bytes(range(fed % 64)).ljust(64 + 4, b"\0")
+    return BytesByValue(struct.pack("<QQI", n, fed, 0)), inner, outer, BytesByValue(tail)
+
+
+def streaming(n, quick=0, deep=0):
+    """A start; a feed that fills a block and one that does not; a finish. Only its tag is handed back in the clear."""
+
+    def streamed(function, arguments, compressions, which="", **more):
+        kept = {"quick": 1000, "deep": 10000}
+        if compressions:
+            kept = {"quick": quick // compressions, "deep": deep // compressions}
+            kept |= sampled(n, compressions * 10007 * n, least=1)
+        arguments = (STREAMED, *arguments, FreshWords(compressions * compress_words(n)))
+        name, function = f"{function}{which}, {n} shares", f"flamivorse_{function}"
+        return Call(name, function, arguments, number=0, leaves=n > 1, **kept, **more)
+
+    tag = Room(20, width=8)
+    return [
+        streamed("hmac_sha1_start", (Number(n), Shares(Secret("key", n, words=16))), 2),
+        streamed("hmac_sha1_feed", (*state(n, 60), Text(b"abcde")), 1),
+        streamed("hmac_sha1_feed", (*state(n, 60), Text(b"abc")), 0, " (no block)"),
+        streamed("hmac_sha1_finish", (*state(n, 3), tag), 2, hands_back=tag),
+    ]
 
 
 def conversions(n):
@@ -104,10 +136,12 @@ COPYING = [
     hmac_sha1(2, quick=100, deep=400),
     sha1_compress(4, quick=100, deep=500),
     sha1_compress(2, quick=200, deep=2000),
+    *streaming(4, quick=80, deep=500),
+    *streaming(2, quick=200, deep=2000),
 ]
 SHORT = [one for n in (8, 4, 2) for one in short(n)]
 CALLS = [*COPYING, sha1_compress(8, quick=40, deep=200), *SHORT, *two_share_forms()]
 
 # Every call at every share count, made once each to see what it leaves behind: nothing, once it is cleared.
-EVERY = [one for n in (8, 4, 2, 1) for one in (hmac_sha1(n), sha1_compress(n), *short(n))]
+EVERY = [one for n in (8, 4, 2, 1) for one in (hmac_sha1(n), *streaming(n), sha1_compress(n), *short(n))]
 ONCE = [replace(one, name=f"left by {one.name}", leaks=False) for one in (*EVERY, *two_share_forms())]

@@ -85,6 +85,16 @@ class SharesByValue(Shares):
 
 
 @dataclass(frozen=True)
+class BytesByValue:
+    """Plain bytes of a struct that is passed by value."""
+
+    content: bytes
+
+    def place(self, frame):
+        frame.stack += self.content
+
+
+@dataclass(frozen=True)
 class FreshWords:
     """A slice of fresh words."""
 
