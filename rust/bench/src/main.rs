@@ -10,16 +10,22 @@
 mod optimised;
 mod plot;
 
-use flamivorse::Chain;
+use flamivorse::{Chain, State, TAG_BYTES};
 use optimised::{Convert, Optimised, Supply};
 use std::hint::black_box;
 use std::time::{Duration, Instant};
 
-const STEPS: [&str; 5] = ["addition", "a2b", "b2a", "compression", "tag"];
+const STEPS: [&str; 6] = ["addition", "a2b", "b2a", "compression", "tag", "streamed"];
 const COUNTS: [usize; 4] = [1, 2, 4, 8];
 
 /// The longest message, which a tag is of unless its length is given.
 const MESSAGE: &[u8] = &[0x61; flamivorse::MESSAGE_LIMIT];
+
+/// The pieces of a streamed message: blocks, the shortest with which each feed has one to compress.
+const PIECE: usize = 64;
+
+/// The arguments of every step fit.
+const DONE: &str = "the arguments are right";
 
 /// What one measurement takes at least. Short, so that some fall between whatever else runs.
 const SPAN: Duration = Duration::from_millis(2);
@@ -70,43 +76,54 @@ fn archive<const N: usize>(step: &str, lent: Lent) -> Step {
     let Lent { input, words, .. } = lent;
     let (x, y) = (&input[..N], &input[N..2 * N]);
     let mut z = [0; N];
-    let done = "the arguments are right";
     match step {
         "addition" => Box::new(move || {
-            flamivorse::add(N, black_box(x), y, &mut z, words).expect(done);
+            flamivorse::add(N, black_box(x), y, &mut z, words).expect(DONE);
             digest(z)
         }),
         "a2b" => Box::new(move || {
-            flamivorse::a2b(N, black_box(x), &mut z, words).expect(done);
+            flamivorse::a2b(N, black_box(x), &mut z, words).expect(DONE);
             digest(z)
         }),
         "b2a" => Box::new(move || {
-            flamivorse::b2a(N, black_box(x), &mut z, words).expect(done);
+            flamivorse::b2a(N, black_box(x), &mut z, words).expect(DONE);
             digest(z)
         }),
         "compression" => Box::new(move || {
             let mut chain = Chain { shares: [0; 40] };
             chain.shares[..5 * N].copy_from_slice(&input[..5 * N]);
             flamivorse::sha1_compress(N, &mut chain, black_box(&input[..16 * N]), words)
-                .expect(done);
+                .expect(DONE);
             digest(chain.shares[..5 * N].iter().copied())
         }),
-        _ => Box::new(move || {
-            let mut tag = [0; 20];
-            flamivorse::hmac_sha1(
-                N,
-                black_box(&input[..16 * N]),
-                lent.message,
-                &mut tag,
-                words,
-            )
-            .expect(done);
-            digest(tag.map(u32::from))
-        }),
+        "tag" => Box::new(move || tag::<N>(lent)),
+        _ => Box::new(move || streamed::<N>(lent)),
     }
 }
 
-/// The step in optimised Rust.
+/// The archive's tag in one call.
+fn tag<const N: usize>(lent: Lent) -> u32 {
+    let mut tag = [0; TAG_BYTES];
+    let key = black_box(&lent.input[..16 * N]);
+    flamivorse::hmac_sha1(N, key, lent.message, &mut tag, lent.words).expect(DONE);
+    digest(tag.map(u32::from))
+}
+
+/// The archive's tag of a message in pieces. Each call is lent the words that those before it left.
+fn streamed<const N: usize>(lent: Lent) -> u32 {
+    let (mut state, mut tag) = (State::default(), [0; TAG_BYTES]);
+    let key = black_box(&lent.input[..16 * N]);
+    let drawn = flamivorse::hmac_sha1_start(N, key, &mut state, lent.words);
+    let mut words = &lent.words[drawn.expect(DONE).words()..];
+    for piece in lent.message.chunks(PIECE) {
+        let drawn = flamivorse::hmac_sha1_feed(&mut state, piece, words);
+        words = &words[drawn.expect(DONE).words()..];
+    }
+    flamivorse::hmac_sha1_finish(&mut state, &mut tag, words).expect(DONE);
+    digest(tag.map(u32::from))
+}
+
+/// The step in optimised Rust. A streamed tag has the compressions of a tag, and is compared with that.
 fn rust<const N: usize>(step: &str, lent: Lent) -> Step
 where
     Optimised: Convert<N>,
