@@ -16,7 +16,7 @@ use Rattle.rules.specs.Hmac.{Masked, everyByte, tagOf}
 use Rattle.rules.specs.Counts.{feedDraws, finishDraws}
 use Rattle.rules.specs.Calls.{call}
 use Rattle.rules.specs.Stream.{Feeds, state, fullBlocks, feed, finish, feedCall, finishCall, message, after}
-use Rattle.rules.specs.Stream.{drawn, Accepted}
+use Rattle.rules.specs.Stream.{drawn, Accepted, fedFrom}
 use Rattle.rules.proofs.Rule.{said, counted, alike}
 use Rattle.rules.proofs.Bytes.{length-words, words-join, words-front, words-split}
 use Rattle.rules.proofs.Conversion.{words-take, words-drop}
@@ -25,7 +25,7 @@ use Rattle.rules.proofs.Goods.{Goods, goods-size}
 use Rattle.rules.proofs.MaskedHmac.{Keeps}
 use Rattle.rules.proofs.Sizes.{Sized, words-size}
 use Rattle.rules.proofs.Streaming.{Readable, left-over, whole-part, full-rule, dropped, counted-so, ends-so}
-use Rattle.rules.proofs.Streaming.{Made, made-fed, made-finished, fed-rule, finished-rule, fedFrom, nothing}
+use Rattle.rules.proofs.Streaming.{Made, made-fed, made-finished, fed-rule, finished-rule, nothing}
 use Rattle.rules.proofs.Streaming.{joined, rest-size}
 use Rattle.rules.proofs.Calls.{passed, holds}
 

@@ -13,7 +13,7 @@ use Rattle.rules.specs.Hash.{Hash, blockBytes, chainWords, wordsOf, endi
 use Rattle.rules.specs.Sha1.{publics}
 use Rattle.rules.specs.Hmac.{Masked, everyByte, digestPadding, textStep, digestStep, tagOf}
 use Rattle.rules.specs.Counts.{startDraws, feedDraws, finishDraws}
-use Rattle.rules.specs.Stream.{inUse, waiting, ReadAlike, state, start, fullBlocks, feed, finish}
+use Rattle.rules.specs.Stream.{inUse, waiting, ReadAlike, state, start, fedFrom, finishedFrom, fullBlocks, feed, finish}
 use Rattle.rules.proofs.Rule.{give, bind, said, counted}
 use Rattle.rules.proofs.Bytes.{length-words, words-front, words-split}
 use Rattle.rules.proofs.Goods.{Goods}
@@ -127,27 +127,12 @@ module _ {M : Masked} {n : ℕ} {Fits : ℕ → Type 0} {Good : List ℕ → ℕ
       (omega arith)
 
 -- ---- feed and finish by what they read of a state: the bytes so far, the chains in use and the bytes that wait
-abbrev pub fedFrom : Masked → ℕ → ℕ → List ℕ → List ℕ → List ℕ → List ℕ → Draw State
-fedFrom M n bytes inner outer waits piece ws at =
-    let B = blockBytes (M .standard) in
-    let text = waits ++ piece in
-    let full = length text / B in
-    let r = fullBlocks M n full text inner ws at in
-    (state n (bytes + length piece) (r .0) outer (drop (full * B) text), r .1)
-
 pub feed-reads : (M : Masked) (s : State) (piece ws : List ℕ) (at : ℕ)
     → (let H = M .standard in
     feed M s piece ws at ≡ fedFrom M (s .n) (s .bytes) (inUse H s (s .inner)) (inUse H s (s .outer))
     (waiting H s) piece ws at)
 unfolding feed
 feed-reads M s piece ws at = refl
-
-abbrev pub finishedFrom : Masked → ℕ → ℕ → List ℕ → List ℕ → List ℕ → Draw (List ℕ)
-finishedFrom M n bytes inner outer waits ws at =
-    let B = blockBytes (M .standard) in
-    let d = textStep M n ((bytes / B + 1) * B) waits inner ws at in
-    let t = digestStep M n (d .0) outer ws (d .1) in
-    (tagOf (M .standard) n (t .0), t .1)
 
 pub finish-reads : (M : Masked) (s : State) (ws : List ℕ) (at : ℕ)
     → (let H = M .standard in

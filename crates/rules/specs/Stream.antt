@@ -69,24 +69,32 @@ fullBlocks M n (suc m) text h ws at =
     let c = M .compress n h (publics n (wordsOf (H .wordBytes) 16 text)) ws at in
     fullBlocks M n m (drop (blockBytes H) text) (c .0) ws (c .1)
 
+abbrev pub fedFrom : Masked → Count → ℕ → Sharing → Sharing → Bytes → Bytes → Draw State
+fedFrom M n bytes inner outer waits piece ws at =
+    let B = blockBytes (M .standard) in
+    let text = waits ++ piece in
+    let full = length text / B in
+    let c = fullBlocks M n full text inner ws at in
+    (state n (bytes + length piece) (c .0) outer (drop (full * B) text), c .1)
+
 unfoldable pub feed : Masked → State → Bytes → Draw State
-feed M s piece ws at =
+feed M s =
     let H = M .standard in
-    let text = waiting H s ++ piece in
-    let full = length text / blockBytes H in
-    let c = fullBlocks M (s .n) full text (inUse H s (s .inner)) ws at in
-    let rest = drop (full * blockBytes H) text in
-    (state (s .n) (s .bytes + length piece) (c .0) (inUse H s (s .outer)) rest, c .1)
+    fedFrom M (s .n) (s .bytes) (inUse H s (s .inner)) (inUse H s (s .outer)) (waiting H s)
 
 -- finish: the padding over the whole length with the key block counted, into the inner chain; then the digest block
 -- into the outer one; the tag is opened
+abbrev pub finishedFrom : Masked → Count → ℕ → Sharing → Sharing → Bytes → Draw Bytes
+finishedFrom M n bytes inner outer waits ws at =
+    let B = blockBytes (M .standard) in
+    let d = textStep M n ((bytes / B + 1) * B) waits inner ws at in
+    let t = digestStep M n (d .0) outer ws (d .1) in
+    (tagOf (M .standard) n (t .0), t .1)
+
 unfoldable pub finish : Masked → State → Draw Bytes
-finish M s ws at =
+finish M s =
     let H = M .standard in
-    let before = (s .bytes / blockBytes H + 1) * blockBytes H in
-    let d = textStep M (s .n) before (waiting H s) (inUse H s (s .inner)) ws at in
-    let t = digestStep M (s .n) (d .0) (inUse H s (s .outer)) ws (d .1) in
-    (tagOf H (s .n) (t .0), t .1)
+    finishedFrom M (s .n) (s .bytes) (inUse H s (s .inner)) (inUse H s (s .outer)) (waiting H s)
 
 -- ---- the calls
 abbrev pub isFit : State → Bool
