@@ -58,7 +58,8 @@ typedef struct { uint32_t number; uint64_t drawn; flamivorse_chain chain; } flam
 
 /* What is carried from piece to piece of a message. It is a value: each copy can be fed or finished by itself, with
  * words of its own, and the one from before a finish can be finished again. Both chains come from the key, and whoever
- * has them can make tags under it: a program clears its copies of a state as it clears the key's shares. */
+ * has them can make tags under it: a program clears its copies of a state as it clears the key's shares. Compare two
+ * states by their fields: the layout has four bytes that belong to none. */
 typedef struct {
     size_t n;                  /* the share count */
     uint64_t bytes;            /* how many bytes of the message were fed so far */
