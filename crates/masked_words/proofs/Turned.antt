@@ -2,7 +2,7 @@
 use Prim.Native.Nat.{ℕ, _+_, _-_, _*_, _%_, _≤_, _<_}
 use mathlib.Core.Path.{_≡_, sym, ap, _∙_}
 use mathlib.Core.List.{List, [], _++_, append-assoc, append-nil}
-use native.Mathlib.Nat.{mul-le-mul-right, mod-lt, mod-self, mod-eq-of-lt, mod-eq-sub-mod}
+use native.Mathlib.Nat.{zero-add, mul-le-mul-right, mod-lt, mod-self, mod-eq-of-lt, mod-eq-sub-mod}
 use native.Mathlib.Decide.{decLt}
 use native.Mathlib.Omega.{arith}
 use lib.ListN.{length, take, drop, length-append, length-drop, take-append-drop, drop-of-length-le}
@@ -115,6 +115,17 @@ turned-last n w s x e f =
     let none : drop (w * n + length x) s ≡ [] = drop-of-length-le s {i = w * n + length x} (omega arith) in
     rw (sets-eq x s (w * n) (omega arith), none, append-nil (take (w * n) s ++ x))
     (turned-append n w (take (w * n) s) x (length-take-le (w * n) s (omega arith)))
+
+-- one word on: the first comes behind the others, and so does one that is stored over it
+pub turned-one : (n : ℕ) (s : List ℕ) → turned n 1 s ≡ drop n s ++ take n s
+unfolding turned
+turned-one n s = let one : 1 * n ≡ n = omega arith in rw one
+
+pub turned-first : (n : ℕ) (s x : List ℕ) → n ≤ length s → length x ≡ n
+    → turned n 1 (sets s (0 * n) x) ≡ drop n s ++ x
+turned-first n s x h e =
+    let none : 0 * n ≡ 0 = omega arith in
+    rw (none, sets-eq x s 0 (omega arith), e, zero-add n) (turned-append n 1 x (drop n s) (omega arith))
 
 -- ---- turned_word, put_turned: word i from word r on is word w
 module _ (n m r i w : ℕ) (h : r < m) (l : i < m) (e : w ≡ (r + i) % m) where

@@ -69,6 +69,11 @@ pub round-made : (k : ℕ) (add : Adder) (n q : ℕ) (w s t z ws : List ℕ) (at
 unfolding round
 round-made k add n q w s t z ws at p e g = rw (e, g)
 
+-- ---- round_of: the round, with the word that it is handed
+pub round-with : (k : ℕ) (add : Adder) (n q : ℕ) (w v s ws : List ℕ) (at : ℕ) (o : Run) → w ≡ v
+    → round k add n q w s ws at ≡ o → round k add n q v s ws at ≡ o
+round-with k add n q w v s ws at o e g = rw (← e) g
+
 -- ---- rounds_at: the rounds from round t on, of m in all, each beginning the state one word lower
 left-one : (m t : ℕ) → t < m → m - t ≡ suc (m - (t + 1))
 left-one m t h = omega arith

@@ -1,24 +1,26 @@
 // The eighty rounds of masked SHA-1, on a state of five words in n shares each.
 ghost use mathlib.Core.Path.{_≡_};
 ghost use mathlib.Core.List.{[], _∷_};
-ghost use Prim.Native.Nat.{_+_, _*_, _/_, _%_, _≤_, _<_};
+ghost use Prim.Native.Nat.{_+_, _-_, _*_, _/_, _%_, _≤_, _<_};
 ghost use lib.ListN.{length};
 ghost use Rattle.rules.specs.Numbers.{largest};
 ghost use Rattle.rules.specs.Shares.{add};
 ghost use Rattle.rules.specs.Standard.{K};
-ghost use Rattle.rules.specs.Sha1.{word, public, summed, temp, moved, round, rounds};
+ghost use Rattle.rules.specs.Sha1.{word, public, summed, temp, moved, round, rounds, schedule};
 ghost use Rattle.rules.specs.Counts.{andDraws, quarterAnds, roundsAnds};
 ghost use Rattle.masked_words.specs.Words.{Masked, turned};
+ghost use Rattle.schedule.specs.Window.{slid};
 use masked_words::add_in;
 use masked_words::put_turned;
 use masked_words::rotate;
 use masked_words::turned_word;
-use masked_words::word;
 use quarters::constant_of;
 use quarters::quarter_of;
+use rules::BLOCK_WORDS;
 use rules::CHAIN_WORDS;
 use rules::LARGEST;
 use rules::ROUNDS;
+use schedule::slide;
 
 // How many rounds there are to a quarter.
 const QUARTER: usize = 20;
@@ -143,19 +145,51 @@ fn round_at(
     p
 }
 
-// The eighty rounds, over the schedule u. Each begins the state one word lower; after all it begins at word 0 again.
-pub fn rounds_at(n: usize, u: &[u32], s: &mut [u32], words: &[u32], at: usize) -> usize
-    requires { ⌜ (0 < n) × (n ≤ largest) × (length (now u) ≡ 80 * n) × (length (now s) ≡ 5 * n)
+// Round t, with the first word of the window u, which then slides on. The state begins one word lower in each round.
+fn round_of(
+    n: usize,
+    t: usize,
+    u: &mut [u32],
+    s: &mut [u32],
+    words: &[u32],
+    at: usize,
+) -> usize
+    requires { ⌜ (t < 80) × (0 < n) × (n ≤ largest) × (length (now u) ≡ 16 * n) × (length (now s) ≡ 5 * n)
+        × (at + (quarterAnds (t / 20) * andDraws n + 128 * andDraws n) ≤ length (now words)) ⌝ }
+    ensures { λ p. ⌜ (round 32 (add 32) n (t / 20) (word n 0 (turned n (t % 16) (now (u .entry))))
+        (turned n ((80 - t) % 5) (now (s .entry))) (now (words .entry)) at
+        ≡ (turned n (((80 - t) % 5 + 4) % 5) (now (s .exit)), p))
+        × (p ≡ at + (quarterAnds (t / 20) * andDraws n + 128 * andDraws n))
+        × (turned n ((t + 1) % 16) (now (u .exit)) ≡ slid 32 n t (turned n (t % 16) (now (u .entry)))) ⌝ }
+{
+    let w = turned_word(u, n, BLOCK_WORDS, t % BLOCK_WORDS, 0);
+    let p = round_at(
+        n,
+        t / QUARTER,
+        (ROUNDS - t) % CHAIN_WORDS,
+        w,
+        s,
+        words,
+        at,
+    );
+    slide(n, t, u);
+    p
+}
+
+// The eighty rounds, over the schedule of a block: u is the block, and then the window that slides over the schedule.
+// After all the state begins at word 0 again.
+pub fn rounds_at(n: usize, u: &mut [u32], s: &mut [u32], words: &[u32], at: usize) -> usize
+    requires { ⌜ (0 < n) × (n ≤ largest) × (length (now u) ≡ 16 * n) × (length (now s) ≡ 5 * n)
         × (at + roundsAnds 32 80 0 * andDraws n ≤ length (now words)) ⌝ }
-    ensures { λ r. ⌜ (rounds 32 (add 32) n (now (u .entry)) 80 0 (now (s .entry)) (now (words .entry)) at
+    ensures { λ r. ⌜ (rounds 32 (add 32) n (schedule 32 n 64 (now (u .entry))) 80 0 (now (s .entry))
+        (now (words .entry)) at
         ≡ (now (s .exit), r))
         × (r ≡ at + roundsAnds 32 80 0 * andDraws n) ⌝ }
 {
     let mut p = at;
     let mut t: usize = 0;
     while t < ROUNDS {
-        let r = (ROUNDS - t) % CHAIN_WORDS;
-        p = round_at(n, t / QUARTER, r, word(u, n, t), s, words, p);
+        p = round_of(n, t, u, s, words, p);
         t += 1;
     }
     p
