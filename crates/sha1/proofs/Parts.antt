@@ -1,11 +1,11 @@
 -- The compression of masked SHA-1, from the parts that the code works out one after the other, and the chain record.
 use Prim.Native.Nat.{ℕ, suc, _+_, _-_, _*_, _≤_, _<_}
 use mathlib.Core.Path.{_≡_, sym, ap, _∙_}
-use mathlib.Core.List.{List, [], _++_, map}
+use mathlib.Core.List.{List, [], _++_, map, append-nil}
 use native.Mathlib.Nat.{add-mul, sub-zero}
 use native.Mathlib.Omega.{arith}
-use lib.ListN.{length, take, drop, replicate, length-replicate, replicate-append-replicate}
-use lib.Seq.{take-at, drop-at}
+use lib.ListN.{length, take, drop, replicate, length-drop, drop-of-length-le}
+use lib.Seq.{length-take-le, take-at, drop-at, take-add, drop-drop}
 use Rattle.rules.specs.Numbers.{largest}
 use Rattle.rules.specs.Shares.{add}
 use Rattle.rules.specs.Convert.{Adder}
@@ -15,30 +15,65 @@ use Rattle.rules.proofs.Loops.{Run, times-suc, chain-length}
 use Rattle.masked_words.specs.Words.{firsts}
 use Rattle.masked_words.proofs.Parts.{firsts-all}
 
--- ---- sum_of: a copy of the old word, and the new one added
-pub sum-made : (k n i : ℕ) (h s ws a x y : List ℕ) (at : ℕ) (o : Run) → a ≡ word n i h → x ≡ a → y ≡ word n i s
-    → add k x y ws at ≡ o → add k (word n i h) (word n i s) ws at ≡ o
-sum-made k n i h s ws a x y at o e f g l = rw (← e, ← f, ← g) l
+-- ---- sum_at: one word of several made anew, x, and the others as they were
+module _ (n i : ℕ) (z x : List ℕ) (room : i * n + n ≤ length z)
+    (same : length x ≡ length (take (i * n + n - i * n) (drop (i * n) z))) where
+  abbrev stored : List ℕ
+  stored = take (i * n) z ++ (x ++ drop (i * n + n - i * n) (drop (i * n) z))
 
--- ---- sum_word, sums_at: the sums from word i on, of m in all
-module _ (add : Adder) (n : ℕ) (h s ws : List ℕ) (i at : ℕ) (z : List ℕ) where
-  pub sums-one : (x z′ : List ℕ) (p : ℕ) → add (word n i h) (word n i s) ws at ≡ (x, p)
-      → firsts n (i + 1) z′ ≡ firsts n i z ++ x → sums add n h s 1 i (firsts n i z) ws at ≡ (firsts n (i + 1) z′, p)
-  unfolding sums
-  sums-one x z′ p e g = rw (e, g)
+  part : i * n + n - i * n ≡ n
+  part = omega arith
 
-  pub sums-next : (m p : ℕ) (z′ : List ℕ) (o : Run) → sums add n h s (m - i) i (firsts n i z) ws at ≡ o → i < m
-      → sums add n h s 1 i (firsts n i z) ws at ≡ (firsts n (i + 1) z′, p)
+  size : length x ≡ n
+  size = rw part at same ∙ length-take-le n (drop (i * n) z) (omega (arith, length-drop (i * n) z))
+
+  front : length (take (i * n) z) ≡ i * n
+  front = length-take-le (i * n) z (omega arith)
+
+  stored-word : word n i stored ≡ x
+  unfolding word
+  stored-word = rw (drop-at (take (i * n) z) _ (i * n) front) (take-at x _ n size)
+
+  pub stored-sum : (k : ℕ) (s ws y : List ℕ) (at p : ℕ) → y ≡ word n i s
+      → add k (take (i * n + n - i * n) (drop (i * n) z)) y ws at ≡ (x, p)
+      → add k (word n i z) (word n i s) ws at ≡ (word n i stored, p)
+  unfolding word
+  stored-sum k s ws y at p e g = rw (stored-word, ← e) (rw part at g)
+
+  pub stored-front : firsts n i stored ≡ firsts n i z
+  unfolding firsts
+  stored-front = take-at (take (i * n) z) _ (i * n) front
+
+  pub stored-rest : drop ((i + 1) * n) stored ≡ drop ((i + 1) * n) z
+  stored-rest =
+      let place : (i + 1) * n ≡ i * n + n = omega arith in
+      rw (place, part)
+      (sym (drop-drop n (i * n) (take (i * n) z ++ (x ++ drop n (drop (i * n) z))))
+      ∙ ap (drop n) (drop-at (take (i * n) z) _ (i * n) front) ∙ drop-at x _ n size ∙ drop-drop n (i * n) z)
+
+-- ---- sums_at: the sums from word i on, of m in all; the words of the chain that are left are the old ones
+module _ (add : Adder) (n m : ℕ) (h s ws : List ℕ) (i at : ℕ) (z : List ℕ) (o : Run)
+    (inv : sums add n h s (m - i) i (firsts n i z) ws at ≡ o) where
+  pub sums-next : (p : ℕ) (z′ : List ℕ) → drop (i * n) z ≡ drop (i * n) h → i < m
+      → add (word n i z) (word n i s) ws at ≡ (word n i z′, p) → firsts n i z′ ≡ firsts n i z
       → sums add n h s (m - (i + 1)) (i + 1) (firsts n (i + 1) z′) ws p ≡ o
-  unfolding sums
-  sums-next m p z′ o inv l one =
+  unfolding sums firsts word
+  sums-next p z′ rest l e f =
       let left : m - i ≡ suc (m - (i + 1)) = omega arith in
-      sym (ap (λ (r : Run). sums add n h s (m - (i + 1)) (i + 1) (r .0) ws (r .1)) one) ∙ rw left at inv
+      let place : (i + 1) * n ≡ i * n + n = omega arith in
+      let old : add (word n i h) (word n i s) ws at ≡ (word n i z′, p) = rw (ap (take n) rest) at e in
+      rw (place, take-add (i * n) n z′, f)
+      (sym (ap (λ (r : Run). sums add n h s (m - (i + 1)) (i + 1) (firsts n i z ++ r .0) ws (r .1)) old) ∙ rw left at inv)
 
-  pub sums-end : (m : ℕ) (o : Run) → sums add n h s (m - i) i (firsts n i z) ws at ≡ o → i ≤ m → m ≤ i
-      → length z ≡ m * n → o ≡ (z, at)
+  pub rest-next : (z′ : List ℕ) → drop (i * n) z ≡ drop (i * n) h → drop ((i + 1) * n) z′ ≡ drop ((i + 1) * n) z
+      → drop ((i + 1) * n) z′ ≡ drop ((i + 1) * n) h
+  rest-next z′ rest e =
+      let place : (i + 1) * n ≡ i * n + n = omega arith in
+      e ∙ rw place (sym (drop-drop n (i * n) z) ∙ ap (drop n) rest ∙ drop-drop n (i * n) h)
+
+  pub sums-end : i ≤ m → m ≤ i → length z ≡ m * n → o ≡ (z, at)
   unfolding sums
-  sums-end m o inv a b size =
+  sums-end a b size =
       let none : m - i ≡ 0 = omega arith in
       let all : i ≡ m = omega arith in
       sym (rw (none, all, firsts-all n m z size) at inv)
@@ -54,16 +89,12 @@ module _ (m i d p end : ℕ) where
   pub sums-after : p + (m - i) * d ≡ end → m ≤ i → p ≡ end
   sums-after e h = let none : m - i ≡ 0 = omega arith in omega (arith, rw none at e)
 
--- ---- rounds_of, compress_at: the schedule, the rounds and the sums
-module _ (k : ℕ) (add : Adder) (n : ℕ) (block ws : List ℕ) (at : ℕ) (o : Run) where
-  pub rounds-made : (u s : List ℕ) → u ≡ schedule k n 64 block → rounds k add n u 80 0 s ws at ≡ o
-      → rounds k add n (schedule k n 64 block) 80 0 s ws at ≡ o
-  rounds-made u s e g = rw (← e) g
-
-  pub compress-made : (h g s : List ℕ) (p : ℕ) → g ≡ h → rounds k add n (schedule k n 64 block) 80 0 g ws at ≡ (s, p)
-      → sums add n h s 5 0 [] ws p ≡ o → compress k add n h block ws at ≡ o
-  unfolding compress
-  compress-made h g s p e f i = rw (← e, f) (rw (← e) at i)
+-- ---- compress_at: the rounds over a copy of the chain, and the sums
+pub compress-made : (k : ℕ) (add : Adder) (n : ℕ) (block ws h g s : List ℕ) (at p : ℕ) (o : Run) → g ≡ h
+    → rounds k add n (schedule k n 64 block) 80 0 g ws at ≡ (s, p) → sums add n h s 5 0 [] ws p ≡ o
+    → compress k add n h block ws at ≡ o
+unfolding compress
+compress-made k add n block ws h g s at p o e f i = rw (← e, f) (rw (← e) at i)
 
 -- the words that they draw
 module _ (n at : ℕ) where
@@ -82,36 +113,57 @@ module _ (n at : ℕ) where
       → q ≡ at + compressDraws 32 n
   compress-after p q e g = omega (arith, parts)
 
--- ---- compress: the used words of a chain record, lent, and a record of new ones with zeros after them
+-- ---- cleared, compress: the chain record
+-- an array that is handed over has its 40 words
+module _ (chain : List ℕ) (whole : length (map (λ (v : ℕ). v) chain) ≡ 5 * largest) where
+  pub chain-end : 5 * largest ≤ length chain
+  chain-end = omega (arith, chain-length chain whole)
+
+  pub chain-room : (n : ℕ) → n ≤ largest → 5 * n ≤ length chain
+  chain-room n h = omega (arith, chain-length chain whole)
+
+  length-used : (n : ℕ) → n ≤ largest → length (used n chain) ≡ 5 * n
+  unfolding used
+  length-used n h = length-take-le (5 * n) chain (chain-room n h)
+
+  -- zeros behind the used words
+  pub cleared-made : (n : ℕ) (rest : List ℕ) → n ≤ largest
+      → rest ≡ replicate (length (take (5 * largest - 5 * n) (drop (5 * n) chain))) 0
+      → take (5 * n) chain ++ (rest ++ drop (5 * largest - 5 * n) (drop (5 * n) chain)) ≡ chainOf n (used n chain)
+  unfolding chainOf used
+  cleared-made n rest few e =
+      let behind = drop (5 * n) chain in
+      let size : length behind ≡ 5 * largest - 5 * n =
+      length-drop (5 * n) chain ∙ omega (arith, chain-length chain whole) in
+      let none : drop (5 * largest - 5 * n) behind ≡ [] = drop-of-length-le behind {i = 5 * largest - 5 * n} (omega arith) in
+      rw (none, append-nil rest, e, length-take-le (5 * largest - 5 * n) behind (omega arith))
+
+  -- the used words, lent; new ones in their place
+  module _ (n : ℕ) (few : n ≤ largest) (all : List ℕ) (is : all ≡ chainOf n (used n chain))
+      (z : List ℕ) (size : length z ≡ 5 * n) where
+    record-used : used n (z ++ drop (5 * n - 0) all) ≡ z
+    unfolding used
+    record-used = take-at z (drop (5 * n - 0) all) (5 * n) size
+
+    pub record-chain : (let r = z ++ drop (5 * n - 0) all in r ≡ chainOf n (used n r))
+    unfolding chainOf
+    record-chain =
+        rw (record-used, sub-zero (5 * n), is) (ap (λ y. z ++ y) (drop-at (used n chain) _ (5 * n) (length-used n few)))
+
+    pub record-made : (k : ℕ) (add : Adder) (block ws : List ℕ) (at p : ℕ)
+        → compress k add n (take (5 * n - 0) all) block ws at ≡ (z, p)
+        → compress k add n (used n chain) block ws at ≡ (used n (z ++ drop (5 * n - 0) all), p)
+    unfolding chainOf
+    record-made k add block ws at p e =
+        let lent : take (5 * n - 0) all ≡ used n chain =
+        rw (sub-zero (5 * n), is) (take-at (used n chain) _ (5 * n) (length-used n few)) in
+        rw (record-used, ← lent) e
+
+-- ---- compress_copy: a copy of the block
+pub copy-made : (k : ℕ) (add : Adder) (n : ℕ) (h block u ws : List ℕ) (at : ℕ) (o : Run) → u ≡ block
+    → compress k add n h u ws at ≡ o → compress k add n h block ws at ≡ o
+copy-made k add n h block u ws at o e g = rw e at g
+
 pub used-lent : (n : ℕ) (chain : List ℕ) → take (5 * n - 0) chain ≡ used n chain
 unfolding used
 used-lent n chain = rw (sub-zero (5 * n))
-
-pub chain-room : (n : ℕ) (chain : List ℕ) → length (map (λ (v : ℕ). v) chain) ≡ 5 * largest → n ≤ largest
-    → 5 * n ≤ length chain
-chain-room n chain e h = omega (arith, chain-length chain e)
-
-pub zeros-after : (m n : ℕ) → n ≤ m → drop {A = ℕ} (n - 0) (replicate m 0) ≡ replicate (m - n) 0
-zeros-after m n h =
-    rw (sub-zero n)
-    (ap (λ k. drop n (replicate k 0)) whole
-    ∙ ap (drop n) (sym (replicate-append-replicate n (m - n) 0))
-    ∙ drop-at (replicate n 0) (replicate (m - n) 0) n (length-replicate n 0))
-  where
-    whole : m ≡ n + (m - n)
-    whole = omega arith
-
-module _ (n : ℕ) (z : List ℕ) (size : length z ≡ 5 * n) where
-  record-used : (all : List ℕ) → used n (z ++ drop (5 * n - 0) all) ≡ z
-  unfolding used
-  record-used all = take-at z (drop (5 * n - 0) all) (5 * n) size
-
-  pub record-chain : n ≤ largest
-      → (let r = z ++ drop (5 * n - 0) (replicate (5 * largest) 0) in r ≡ chainOf n (used n r))
-  unfolding chainOf
-  record-chain few = rw (record-used _, zeros-after (5 * largest) (5 * n) (omega arith))
-
-  pub record-made : (k : ℕ) (add : Adder) (chain block ws all : List ℕ) (at p : ℕ)
-      → compress k add n (take (5 * n - 0) chain) block ws at ≡ (z, p)
-      → compress k add n (used n chain) block ws at ≡ (used n (z ++ drop (5 * n - 0) all), p)
-  record-made k add chain block ws all at p e = rw (record-used all, ← used-lent n chain) e

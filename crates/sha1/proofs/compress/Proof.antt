@@ -4,9 +4,6 @@ use Rattle.sha1.proofs.Parts.{chain-room, record-chain, record-made}
 use Rattle.sha1.proofs.compress.Statement.{statement}
 use Rattle.sha1.proofs.compress.Tie as tie
 
-room : tie.Need-part-h-end
-room c = search chain-room
-
 returns : tie.Need-returns
 returns c = (search record-made, search record-chain, search needs)
 
@@ -15,12 +12,11 @@ compress-spec =
     tie.close
     (tie.spec
     (λ c. search needs)
-    (λ c. search needs)
-    (λ c. search needs)
-    room
-    (λ c. search needs)
-    (λ c. search needs)
-    (λ c. search needs)
     (λ c κs. search needs)
+    (λ c. search needs)
+    (λ c. search needs)
+    (λ c. search chain-room)
+    (λ c κs. search needs)
+    (λ c. search needs)
     returns
     )

@@ -4,8 +4,8 @@ use Rattle.sha1.proofs.Parts.{compress-made, rounds-room, sums-room, co
 use Rattle.sha1.proofs.compress_at.Statement.{statement}
 use Rattle.sha1.proofs.compress_at.Tie as tie
 
-rounds-of-requires : tie.Need-rounds-of-requires
-rounds-of-requires c κs = (search needs, search needs, search needs, search needs, search rounds-room)
+rounds-at-requires : tie.Need-rounds-at-requires
+rounds-at-requires c κs = (search needs, search needs, search needs, search needs, search rounds-room)
 
 sums-at-requires : tie.Need-sums-at-requires
 sums-at-requires c κs = (search needs, search needs, search sums-room)
@@ -21,8 +21,9 @@ compress-at-spec =
     (λ c. search needs)
     (λ c. search needs)
     (λ c κs. search needs)
-    rounds-of-requires
+    rounds-at-requires
     sums-at-requires
+    (λ c. search needs)
     (λ c. search needs)
     returns
     )

@@ -1,34 +1,35 @@
--- up to word i the chain's sums stand; what is left gives the rest
+-- up to word i the chain's sums stand, behind them its old words; what is left gives the rest
 use borrow.Author.Needs.{needs}
 use Prim.Native.Nat.{_+_, _-_, _*_, _≤_}
-use mathlib.Core.Path.{_≡_}
+use mathlib.Core.Path.{_≡_, refl}
 use mathlib.Core.List.{[]}
-use lib.ListN.{length}
+use lib.ListN.{length, drop}
 use Rattle.rules.specs.Shares.{add}
 use Rattle.rules.specs.Sha1.{sums}
 use Rattle.rules.specs.Counts.{andDraws}
 use Rattle.masked_words.specs.Words.{firsts}
 use Rattle.masked_words.proofs.Parts.{word-room, firsts-none}
-use Rattle.sha1.proofs.Parts.{sums-next, sums-end, sum-room, sum-after, sums-after}
+use Rattle.sha1.proofs.Parts.{rest-next, sums-next, sums-end, sum-room, sum-after, sums-after}
 use Rattle.sha1.proofs.sums_at.Statement.{statement}
 use Rattle.sha1.proofs.sums_at.Tie as tie
 
 abbrev Inv-loop : tie.InvT-loop
-Inv-loop n h s z₀ words at p₀ i₀ z p i =
+Inv-loop n s z₀ words at p₀ i₀ z p i =
     (i ≤ 5) × (length z ≡ 5 * n) × (p + (5 - i) * (32 * andDraws n) ≡ at + 160 * andDraws n)
-    × (sums (add 32) n h s (5 - i) i (firsts n i z) words p ≡ sums (add 32) n h s 5 0 [] words at)
+    × (drop (i * n) z ≡ drop (i * n) z₀)
+    × (sums (add 32) n z₀ s (5 - i) i (firsts n i z) words p ≡ sums (add 32) n z₀ s 5 0 [] words at)
 
 abbrev μ-loop : tie.MeasureT-loop
-μ-loop n h s z₀ words at p₀ i₀ z p i = 5 - i
+μ-loop n s z₀ words at p₀ i₀ z p i = 5 - i
 
 loop-holds : tie.Need-loop-holds Inv-loop μ-loop
-loop-holds c = (search needs, search needs, search needs, rw firsts-none)
+loop-holds c = (search needs, search needs, search needs, refl, rw firsts-none)
 
-sum-word-requires : tie.Need-sum-word-requires Inv-loop μ-loop
-sum-word-requires c κs = (search needs, search word-room, search word-room, search word-room, search sum-room)
+sum-at-requires : tie.Need-sum-at-requires Inv-loop μ-loop
+sum-at-requires c κs = (search needs, search word-room, search word-room, search sum-room)
 
 loop-again : tie.Need-loop-again Inv-loop μ-loop
-loop-again c = (search needs, search needs, search sum-after, search sums-next)
+loop-again c = (search needs, search needs, search sum-after, search rest-next, search sums-next)
 
 returns : tie.Need-returns Inv-loop μ-loop
 returns c = (search sums-end, search sums-after)
@@ -40,7 +41,7 @@ sums-at-spec =
     Inv-loop
     μ-loop
     loop-holds
-    sum-word-requires
+    sum-at-requires
     (λ c. search needs)
     (λ c. search needs)
     loop-again
