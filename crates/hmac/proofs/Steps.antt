@@ -19,6 +19,7 @@ use Rattle.hash.specs.Hash.{hash}
 use Rattle.hash.proofs.Publics.{place-room, start-used, publics-part}
 use Rattle.padding.specs.Whole.{blocksIn}
 use Rattle.sha1.proofs.Parts.{used-lent}
+use Rattle.hmac.specs.Halves.{innerHash, outerHash}
 
 -- ---- a constant in share 1 of each word
 module _ (n c : ℕ) (z e : List ℕ) where
@@ -42,9 +43,6 @@ public-room n l m e f = rw e f
 
 -- ---- one compression, of a block that was made so
 module _ (n : ℕ) (ws : List ℕ) (at : ℕ) where
-  pub block-made : (h x : List ℕ) {b : List ℕ} {o : Run} → b ≡ x → hash .compress n h b ws at ≡ o → hash .compress n h x ws at ≡ o
-  block-made h x e g = rw (← e) g
-
   pub key-made : (c : ℕ) (key : List ℕ) {s b : List ℕ} {o : Run} → 0 < n → s ≡ chainOf n (publics n H0) → b ≡ marked n c 16 0 key
       → hash .compress n (used n s) b ws at ≡ o → hash .compress n (publics n H0) (marked n c 16 0 key) ws at ≡ o
   key-made c key h e f g = rw (← f, ← start-used n h, ← e) g
@@ -53,24 +51,34 @@ module _ (n : ℕ) (ws : List ℕ) (at : ℕ) where
       → hash .compress n h b ws at ≡ o → hash .compress n h (used n inner ++ x) ws at ≡ o
   digest-step-made h inner x e f = rw (← used-lent n inner, ← e) f
 
-  pub hmac-made : (key text : List ℕ) {i d o : List ℕ} {p q r : ℕ} {e : Run}
+  -- two steps, one after the other
+  pub inner-made : (key text : List ℕ) {i : List ℕ} {p : ℕ} {o : Run}
       → hash .compress n (publics n H0) (marked n 0x36363636 16 0 key) ws at ≡ (i, p)
-      → blocks hash n (blocksIn (length text)) (publics n (ending (SHA1 32) 64 text)) i ws p ≡ (d, q)
-      → hash .compress n (publics n H0) (marked n 0x5c5c5c5c 16 0 key) ws q ≡ (o, r)
-      → hash .compress n o (d ++ publics n (digestPadding (SHA1 32))) ws r ≡ e → hmacShares hash n key text ws at ≡ e
-  unfolding hmacShares numberOf
-  hmac-made key text a b c f = rw (ending-blocks (SHA1 32) (sha1-proper 32) 1 64 refl text, a, b, c, f)
+      → blocks hash n (blocksIn (length text)) (publics n (ending (SHA1 32) 64 text)) i ws p ≡ o
+      → innerHash hash n key text ws at ≡ o
+  unfolding innerHash numberOf
+  inner-made key text a b = rw (ending-blocks (SHA1 32) (sha1-proper 32) 1 64 refl text, a, b)
+
+  pub outer-made : (key d : List ℕ) {g : List ℕ} {p : ℕ} {o : Run}
+      → hash .compress n (publics n H0) (marked n 0x5c5c5c5c 16 0 key) ws at ≡ (g, p)
+      → hash .compress n g (d ++ publics n (digestPadding (SHA1 32))) ws p ≡ o → outerHash hash n key d ws at ≡ o
+  unfolding outerHash numberOf
+  outer-made key d a b = rw (a, b)
+
+  pub hmac-made : (key text : List ℕ) {d : List ℕ} {p : ℕ} {o : Run} → innerHash hash n key text ws at ≡ (d, p)
+      → outerHash hash n key d ws p ≡ o → hmacShares hash n key text ws at ≡ o
+  unfolding hmacShares innerHash outerHash
+  hmac-made key text a b = rw (a, b)
 
 -- ---- the blocks of a text, one after the other: j of them done
 abbrev pub Left : ℕ → List ℕ → List ℕ → ℕ → ℕ → List ℕ → ℕ → Run
 Left n ws W count j g p = blocks hash n (count - j) (drop (j * (16 * n)) (publics n W)) g ws p
 
 module _ (n : ℕ) (ws W : List ℕ) (count : ℕ) (e : Run) where
-  pub blocks-next : (j p q : ℕ) (g g1 : List ℕ) → 0 < n → j < count
-      → hash .compress n g (publics n (take 16 (drop (16 * j) W))) ws p ≡ (g1, q)
-      → Left n ws W count j g p ≡ e → Left n ws W count (j + 1) g1 q ≡ e
+  pub blocks-next : (j p q : ℕ) (b g g1 : List ℕ) → 0 < n → j < count → hash .compress n g b ws p ≡ (g1, q)
+      → b ≡ publics n (take 16 (drop (16 * j) W)) → Left n ws W count j g p ≡ e → Left n ws W count (j + 1) g1 q ≡ e
   unfolding blocks
-  blocks-next j p q g g1 some l f inv =
+  blocks-next j p q b g g1 some l f made inv =
       let m : count - j ≡ suc (count - (j + 1)) = omega arith in
       let P = publics n W in
       let place : 16 * j * n ≡ j * (16 * n) = ap (λ t. t * n) (mul-comm 16 j) ∙ mul-assoc j 16 n in
@@ -79,8 +87,9 @@ module _ (n : ℕ) (ws W : List ℕ) (count : ℕ) (e : Run) where
       let after : j * (16 * n) + 16 * n ≡ (j + 1) * (16 * n) = omega (arith, add-mul j 1 (16 * n)) in
       let rest : drop (16 * n) (drop (j * (16 * n)) P) ≡ drop ((j + 1) * (16 * n)) P =
       drop-drop (16 * n) (j * (16 * n)) P ∙ ap (λ t. drop t P) after in
-      rw (← rest) (sym (ap (λ (r : Run). blocks hash n (count - (j + 1)) (drop (16 * n) (drop (j * (16 * n)) P)) (r .0) ws (r .1))
-      (rw block at f)) ∙ (rw m at inv))
+      let left = drop (16 * n) (drop (j * (16 * n)) P) in
+      rw (← rest) (sym (ap (λ (r : Run). blocks hash n (count - (j + 1)) left (r .0) ws (r .1))
+      (rw (made ∙ block) at f)) ∙ (rw m at inv))
 
   pub blocks-begin : (m p : ℕ) (g : List ℕ) → count ≡ m → Left n ws W count 0 g p ≡ blocks hash n m (publics n W) g ws p
   blocks-begin m p g f = rw (f, sub-zero m, zero-mul (16 * n))
@@ -108,25 +117,19 @@ digest-made n inner d x z l lz e f =
     let none : drop (16 * n - 5 * n) rest ≡ [] = drop-of-length-le rest {i = 16 * n - 5 * n} (rw (length-drop (5 * n) z) (omega arith)) in
     rw (e, sub-zero (5 * n), take-at inner rest (5 * n) l, drop-at inner rest (5 * n) l, none, append-nil x, f)
 
--- ---- how many words HMAC draws, at d words a compression, and that they are there for each of its four steps
+-- ---- how many words HMAC draws, at d words a compression, and that they are there for both of its halves
 module _ (l d at : ℕ) where
   abbrev all : ℕ
   all = at + compressions (SHA1 32) l * d
 
-  pub hmac-count : (p q r e : ℕ) → p ≡ at + d → q ≡ p + blocksIn l * d → r ≡ q + d → e ≡ r + d → e ≡ all
-  hmac-count p q r e a b c f = omega (arith, add-mul ((l + 8) / 64) 1 d, add-mul ((l + 8) / 64) 4 d)
+  pub hmac-count : (p q : ℕ) → p ≡ at + d + blocksIn l * d → q ≡ p + d + d → q ≡ all
+  hmac-count p q a b = omega (arith, add-mul ((l + 8) / 64) 1 d, add-mul ((l + 8) / 64) 4 d)
 
-  pub inner-room : (have : ℕ) → all ≤ have → at + d ≤ have
-  inner-room have h = omega (arith, add-mul ((l + 8) / 64) 4 d)
+  pub inner-room : (have : ℕ) → all ≤ have → at + d + blocksIn l * d ≤ have
+  inner-room have h = omega (arith, add-mul ((l + 8) / 64) 1 d, add-mul ((l + 8) / 64) 4 d)
 
-  pub text-room : (have p : ℕ) → all ≤ have → p ≡ at + d → p + blocksIn l * d ≤ have
-  text-room have p h a = omega (arith, add-mul ((l + 8) / 64) 1 d, add-mul ((l + 8) / 64) 4 d)
-
-  pub outer-room : (have p q : ℕ) → all ≤ have → p ≡ at + d → q ≡ p + blocksIn l * d → q + d ≤ have
-  outer-room have p q h a b = omega (arith, add-mul ((l + 8) / 64) 1 d, add-mul ((l + 8) / 64) 4 d)
-
-  pub digest-room : (have p q r : ℕ) → all ≤ have → p ≡ at + d → q ≡ p + blocksIn l * d → r ≡ q + d → r + d ≤ have
-  digest-room have p q r h a b c = omega (arith, hmac-count p q r (r + d) a b c refl)
+  pub outer-room : (have p : ℕ) → all ≤ have → p ≡ at + d + blocksIn l * d → p + d + d ≤ have
+  outer-room have p h a = omega (arith, hmac-count p (p + d + d) a refl)
 
 pub tag-made : (n : ℕ) (key text ws t : List ℕ) (at p : ℕ) {s : List ℕ} → hmacShares hash n key text ws at ≡ (s, p)
     → t ≡ allBytes 4 (openWords n 5 s) → hmacTag hash n key text ws at ≡ (t, p)

@@ -12,6 +12,7 @@ ghost use Rattle.rules.specs.Hmac.{marked, blocks, digestPadding, hmacShares, h
 ghost use Rattle.rules.specs.Counts.{hmacDraws};
 ghost use Rattle.hash.specs.Hash.{hash};
 ghost use Rattle.padding.specs.Whole.{Hashable, blocksIn};
+ghost use Rattle.hmac.specs.Halves.{innerHash, outerHash};
 use hash::publish;
 use padding::block_words;
 use padding::blocks_in;
@@ -50,22 +51,28 @@ fn key_block(n: usize, c: u32, key: &[u32], z: &mut [u32])
     }
 }
 
-// The key, marked with a constant, into the chain that starts a hash, from the word at `at` on.
-pub fn key_step(n: usize, c: u32, key: &[u32], words: &[u32], at: usize) -> Stepped
-    requires { ⌜ (0 < n) × (n ≤ largest) × (length (now key) ≡ 16 * n) × (at + hash .draws n ≤ length (now words)) ⌝ }
+// The key, marked with a constant, into the chain that starts a hash, from the word at `at` on. `block` is room for
+// one.
+pub fn key_step(
+    n: usize,
+    c: u32,
+    key: &[u32],
+    block: &mut [u32],
+    words: &[u32],
+    at: usize,
+) -> Stepped
+    requires { ⌜ (0 < n) × (n ≤ largest) × (length (now key) ≡ 16 * n) × (length (now block) ≡ 16 * n)
+        × (at + hash .draws n ≤ length (now words)) ⌝ }
     ensures { λ r. ⌜ (hash .compress n (publics n (hash .standard .start)) (marked n c 16 0 (now (key .entry))) (now (words .entry)) at
         ≡ (used n (r .chain .shares), r .at))
         × (r .at ≡ at + hash .draws n) ⌝ }
 {
-    let end = BLOCK_WORDS * n;
-    let mut block0 = [0u32; BLOCK];
-    let block = &mut block0[0..end];
     key_block(n, c, key, block);
     hash::compress(n, hash::start(n), block, words, at)
 }
 
 // Block j of a text after `before` bytes, with its padding, as public words in shares.
-fn public_block(n: usize, before: usize, text: &[u8], j: usize, z: &mut [u32])
+pub fn public_block(n: usize, before: usize, text: &[u8], j: usize, z: &mut [u32])
     requires { ⌜ (0 < n) × (before % 64 ≡ 0) × Hashable (before + length (now text))
         × (j < blocksIn (length (now text))) × (length (now z) ≡ 16 * n) ⌝ }
     ensures { λ _. ⌜ now (z .exit) ≡ publics n (take 16 (drop (16 * j) (ending (hash .standard) before (now (text .entry))))) ⌝ }
@@ -75,41 +82,19 @@ fn public_block(n: usize, before: usize, text: &[u8], j: usize, z: &mut [u32])
     publish(n, &values, z);
 }
 
-// Block j of a text after `before` bytes, with its padding, into a chain, from the word at `at` on.
-pub fn block_step(
-    n: usize,
-    chain: Chain,
-    before: usize,
-    text: &[u8],
-    j: usize,
-    words: &[u32],
-    at: usize,
-) -> Stepped
-    requires { ⌜ (0 < n) × (n ≤ largest) × (before % 64 ≡ 0) × Hashable (before + length (now text))
-        × (j < blocksIn (length (now text))) × (at + hash .draws n ≤ length (now words)) ⌝ }
-    ensures { λ r. ⌜ (hash .compress n (used n (chain .shares))
-        (publics n (take 16 (drop (16 * j) (ending (hash .standard) before (now (text .entry)))))) (now (words .entry)) at
-        ≡ (used n (r .chain .shares), r .at))
-        × (r .at ≡ at + hash .draws n) ⌝ }
-{
-    let end = BLOCK_WORDS * n;
-    let mut block0 = [0u32; BLOCK];
-    let block = &mut block0[0..end];
-    public_block(n, before, text, j, block);
-    hash::compress(n, chain, block, words, at)
-}
-
-// A text after `before` bytes, with its padding, into a chain, block by block from the word at `at` on.
+// A text after `before` bytes, with its padding, into a chain, block by block from the word at `at` on. `block` is
+// room for one.
 pub fn text_step(
     n: usize,
     chain: Chain,
     before: usize,
     text: &[u8],
+    block: &mut [u32],
     words: &[u32],
     at: usize,
 ) -> Stepped
     requires { ⌜ (0 < n) × (n ≤ largest) × (before % 64 ≡ 0) × Hashable (before + length (now text))
-        × (at + blocksIn (length (now text)) * hash .draws n ≤ length (now words)) ⌝ }
+        × (length (now block) ≡ 16 * n) × (at + blocksIn (length (now text)) * hash .draws n ≤ length (now words)) ⌝ }
     ensures { λ r. ⌜ (blocks hash n (blocksIn (length (now (text .entry))))
         (publics n (ending (hash .standard) before (now (text .entry)))) (used n (chain .shares)) (now (words .entry)) at
         ≡ (used n (r .chain .shares), r .at))
@@ -120,7 +105,8 @@ pub fn text_step(
     let mut p = at;
     let mut j = 0;
     while j < count {
-        let next = block_step(n, c, before, text, j, words, p);
+        public_block(n, before, text, j, block);
+        let next = hash::compress(n, c, block, words, p);
         c = next.chain;
         p = next.at;
         j += 1;
@@ -142,35 +128,85 @@ fn digest_block(n: usize, inner: &[u32], z: &mut [u32])
     publish(n, &values, rest);
 }
 
-// The digest block of the inner chain into the outer chain, from the word at `at` on.
-pub fn digest_step(n: usize, inner: Chain, outer: Chain, words: &[u32], at: usize) -> Stepped
-    requires { ⌜ (0 < n) × (n ≤ largest) × (at + hash .draws n ≤ length (now words)) ⌝ }
+// The digest block of the inner chain into the outer chain, from the word at `at` on. `block` is room for one.
+pub fn digest_step(
+    n: usize,
+    inner: Chain,
+    outer: Chain,
+    block: &mut [u32],
+    words: &[u32],
+    at: usize,
+) -> Stepped
+    requires { ⌜ (0 < n) × (n ≤ largest) × (length (now block) ≡ 16 * n)
+        × (at + hash .draws n ≤ length (now words)) ⌝ }
     ensures { λ r. ⌜ (hash .compress n (used n (outer .shares)) (used n (inner .shares) ++ publics n (digestPadding (hash .standard)))
         (now (words .entry)) at
         ≡ (used n (r .chain .shares), r .at))
         × (r .at ≡ at + hash .draws n) ⌝ }
 {
     let m = CHAIN_WORDS * n;
-    let end = BLOCK_WORDS * n;
     let all = inner.shares;
     let digest = &all[0..m];
-    let mut block0 = [0u32; BLOCK];
-    let block = &mut block0[0..end];
     digest_block(n, digest, block);
     hash::compress(n, outer, block, words, at)
 }
 
-// HMAC of a message under a key in shares, from the word at `at` on: the tag, in shares, and the place after.
-fn hmac_shares(n: usize, key: &[u32], text: &[u8], words: &[u32], at: usize) -> Stepped
+// The inner key block, then a message, from the word at `at` on. `block` is room for one.
+fn inner_step(
+    n: usize,
+    key: &[u32],
+    text: &[u8],
+    block: &mut [u32],
+    words: &[u32],
+    at: usize,
+) -> Stepped
     requires { ⌜ (0 < n) × (n ≤ largest) × (length (now key) ≡ 16 * n) × Hashable (64 + length (now text))
-        × (at + hmacDraws hash n (length (now text)) ≤ length (now words)) ⌝ }
+        × (length (now block) ≡ 16 * n)
+        × (at + hash .draws n + blocksIn (length (now text)) * hash .draws n ≤ length (now words)) ⌝ }
+    ensures { λ r. ⌜ (innerHash hash n (now (key .entry)) (now (text .entry)) (now (words .entry)) at
+        ≡ (used n (r .chain .shares), r .at))
+        × (r .at ≡ at + hash .draws n + blocksIn (length (now (text .entry))) * hash .draws n) ⌝ }
+{
+    let start = key_step(n, INNER, key, block, words, at);
+    text_step(n, start.chain, BLOCK_BYTES, text, block, words, start.at)
+}
+
+// The outer key block, then the digest block of the inner chain, from the word at `at` on. `block` is room for one.
+fn outer_step(
+    n: usize,
+    key: &[u32],
+    inner: Chain,
+    block: &mut [u32],
+    words: &[u32],
+    at: usize,
+) -> Stepped
+    requires { ⌜ (0 < n) × (n ≤ largest) × (length (now key) ≡ 16 * n) × (length (now block) ≡ 16 * n)
+        × (at + hash .draws n + hash .draws n ≤ length (now words)) ⌝ }
+    ensures { λ r. ⌜ (outerHash hash n (now (key .entry)) (used n (inner .shares)) (now (words .entry)) at
+        ≡ (used n (r .chain .shares), r .at))
+        × (r .at ≡ at + hash .draws n + hash .draws n) ⌝ }
+{
+    let outer = key_step(n, OUTER, key, block, words, at);
+    digest_step(n, inner, outer.chain, block, words, outer.at)
+}
+
+// HMAC of a message under a key in shares, from the word at `at` on: the tag, in shares, and the place after. `block`
+// is room for one.
+fn hmac_shares(
+    n: usize,
+    key: &[u32],
+    text: &[u8],
+    block: &mut [u32],
+    words: &[u32],
+    at: usize,
+) -> Stepped
+    requires { ⌜ (0 < n) × (n ≤ largest) × (length (now key) ≡ 16 * n) × Hashable (64 + length (now text))
+        × (length (now block) ≡ 16 * n) × (at + hmacDraws hash n (length (now text)) ≤ length (now words)) ⌝ }
     ensures { λ r. ⌜ (hmacShares hash n (now (key .entry)) (now (text .entry)) (now (words .entry)) at ≡ (used n (r .chain .shares), r .at))
         × (r .at ≡ at + hmacDraws hash n (length (now (text .entry)))) ⌝ }
 {
-    let start = key_step(n, INNER, key, words, at);
-    let inner = text_step(n, start.chain, BLOCK_BYTES, text, words, start.at);
-    let outer = key_step(n, OUTER, key, words, inner.at);
-    digest_step(n, inner.chain, outer.chain, words, outer.at)
+    let inner = inner_step(n, key, text, block, words, at);
+    outer_step(n, key, inner.chain, block, words, inner.at)
 }
 
 // Word w of a tag becomes the bytes of v, the highest first.
@@ -221,7 +257,10 @@ pub fn hmac_tag(
         × (at + hmacDraws hash n (length (now text)) ≤ length (now words)) ⌝ }
     ensures { λ r. ⌜ hmacTag hash n (now (key .entry)) (now (text .entry)) (now (words .entry)) at ≡ (now (tag .exit), r) ⌝ }
 {
-    let last = hmac_shares(n, key, text, words, at);
+    let end = BLOCK_WORDS * n;
+    let mut block0 = [0u32; BLOCK];
+    let block = &mut block0[0..end];
+    let last = hmac_shares(n, key, text, block, words, at);
     tag_bytes(n, last.chain, tag);
     last.at
 }

@@ -8,6 +8,10 @@ pub hmac-tag-spec : {M : Type 1} → statement M
 hmac-tag-spec =
     tie.close
     (tie.spec
+    (λ c. search needs)
+    (λ c. search needs)
+    (λ c. search needs)
+    (λ c. search needs)
     (λ c κs. search needs)
     (λ c κs. search needs)
     (λ c. search needs)

@@ -8,11 +8,8 @@ pub key-step-spec : {M : Type 1} → statement M
 key-step-spec =
     tie.close
     (tie.spec
-    (λ c. search needs)
-    (λ c. search needs)
-    (λ c. search needs)
-    (λ c. search needs)
     (λ c κs. search needs)
     (λ c κs. search needs)
     (λ c κs. search needs)
+    (λ c. search needs)
     (λ c. (search key-made, search needs)))

@@ -13,13 +13,13 @@ use Rattle.hmac.proofs.text_step.Statement.{statement}
 use Rattle.hmac.proofs.text_step.Tie as tie
 
 abbrev Inv-loop : tie.InvT-loop
-Inv-loop n before text words at count c₀ p₀ j₀ c p j =
+Inv-loop n before text block₀ words at count c₀ p₀ j₀ block c p j =
     let W = ending (hash .standard) before text in
-    (j ≤ count) × (count ≡ blocksIn (length text)) × (p ≡ at + j * hash .draws n)
+    (j ≤ count) × (length block ≡ 16 * n) × (count ≡ blocksIn (length text)) × (p ≡ at + j * hash .draws n)
     × (Left n words W count j (used n (c .shares)) p ≡ blocks hash n (blocksIn (length text)) (publics n W) (used n (c₀ .shares)) words at)
 
 abbrev μ-loop : tie.MeasureT-loop
-μ-loop n before text words at count c₀ p₀ j₀ c p j = count - j
+μ-loop n before text block₀ words at count c₀ p₀ j₀ block c p j = count - j
 
 pub text-step-spec : {M : Type 1} → statement M
 text-step-spec =
@@ -28,9 +28,11 @@ text-step-spec =
     Inv-loop
     μ-loop
     (λ c κs. search needs)
-    (λ c. (search needs, search needs, search needs, search blocks-begin))
-    (λ c κs. (search needs, search needs, search needs, search needs, search needs, search block-room))
+    (λ c. (search needs, search needs, search needs, search needs, search blocks-begin))
+    (λ c κs. search needs)
+    (λ c κs. (search needs, search needs, search needs, search block-room))
     (λ c. search needs)
     (λ c. search needs)
-    (λ c. (search needs, search needs, search needs, search blocks-next))
+    (λ c. (search needs, search needs, search needs, search needs, search blocks-next))
+    (λ c. search needs)
     (λ c. (search blocks-end, search block-place)))
