@@ -5,7 +5,7 @@ use mathlib.Core.List.{List, [], _++_, map, append-nil}
 use native.Mathlib.Omega.{arith}
 use native.Mathlib.Nat.{sub-zero, add-mul}
 use lib.ListN.{length, getD, set, take, drop, replicate, length-append, length-drop, length-map, take-append-drop}
-use lib.ListN.{List·getD-append}
+use lib.ListN.{List·getD-append, drop-of-length-le}
 use lib.Seq.{take-at, take-all, drop-drop, getD-append-add, getD-take, getD-drop, length-take-le}
 use Rattle.words.proofs.Stores.{filled-next, filled-end}
 use Rattle.rules.specs.declared.Chain.{Chain}
@@ -22,18 +22,22 @@ use Rattle.rules.proofs.Hashes.{ending-front, ending-blocks}
 use Rattle.rules.proofs.Tags.{sha1-proper}
 use Rattle.hash.specs.Hash.{hash}
 use Rattle.padding.specs.Whole.{blocksIn}
-use Rattle.sha1.proofs.Parts.{used-lent, zeros-after}
+use Rattle.sha1.proofs.Parts.{zeros-after}
 
 -- ---- a chain with 0 in its unused words
-pub cleared-made : (n : ℕ) (chain h : List ℕ) → n ≤ largest → length (map (λ (v : ℕ). v) chain) ≡ 5 * largest
-    → h ≡ take (5 * n - 0) chain
-    → _≡_ {A = Chain} (record { shares = h ++ drop {A = ℕ} (5 * n - 0) (replicate (5 * largest) 0) })
-    (record { shares = filled 40 (used n chain) })
+pub cleared-made : (n : ℕ) (chain x : List ℕ) → n ≤ largest → length (map (λ (v : ℕ). v) chain) ≡ 5 * largest
+    → (let rest = drop (5 * n) chain in
+    x ≡ replicate (length (take (5 * largest - 5 * n) rest)) 0
+    → _≡_ {A = Chain} (record { shares = take (5 * n) chain ++ (x ++ drop (5 * largest - 5 * n) rest) })
+    (record { shares = filled 40 (used n chain) }))
 unfolding used
-cleared-made n chain h few whole e =
-    let long : length (take (5 * n) chain) ≡ 5 * n =
+cleared-made n chain x few whole e =
+    let rest = drop (5 * n) chain in
+    let m = 5 * largest - 5 * n in
+    let long : length rest ≡ m = rw (length-drop (5 * n) chain, chain-length chain whole) in
+    let front : length (take (5 * n) chain) ≡ 5 * n =
     length-take-le (5 * n) chain (omega (arith, chain-length chain whole)) in
-    rw (e, used-lent n chain, zeros-after (5 * largest) (5 * n) (omega arith), long)
+    rw (e, take-all m rest (omega arith), drop-of-length-le rest {i = m} (omega arith), append-nil, long, front)
 
 -- ---- the bytes that wait and then the piece
 module _ (tail piece : List ℕ) where
@@ -77,15 +81,16 @@ full-words text h =
     ∙ sym (words-front 4 16 block (drop 64 text) (omega (arith, size)))
     ∙ ap (wordsOf 4 16) (take-append-drop 64 text)
 
-pub full-made : (n : ℕ) (h tail piece block ws : List ℕ) (j at : ℕ) {o : Run} → 64 * j + 64 ≤ length tail + length piece
-    → block ≡ take 64 (drop (64 * j) (tail ++ piece))
-    → hash .compress n h (publics n (take 16 (drop (16 * 0) (ending (hash .standard) 0 block)))) ws at ≡ o
+pub full-made : (n : ℕ) (h tail piece bytes b ws : List ℕ) (j at : ℕ) {o : Run}
+    → 64 * j + 64 ≤ length tail + length piece
+    → bytes ≡ take 64 (drop (64 * j) (tail ++ piece)) → hash .compress n h b ws at ≡ o
+    → b ≡ publics n (take 16 (drop (16 * 0) (ending (hash .standard) 0 bytes)))
     → hash .compress n h (publics n (wordsOf 4 16 (drop (64 * j) (tail ++ piece)))) ws at ≡ o
-full-made n h tail piece block ws j at room e f =
+full-made n h tail piece bytes b ws j at room e f made =
     let text = tail ++ piece in
     let long : 64 ≤ length (drop (64 * j) text) =
     rw (length-drop (64 * j) text, length-append tail piece) (omega arith) in
-    rw (← full-words (drop (64 * j) text) long, ← e) f
+    rw (← full-words (drop (64 * j) text) long, ← e, ← made) f
 
 -- ---- the full blocks, one after the other: j of them done
 module _ (n : ℕ) (ws text : List ℕ) (count : ℕ) (e : Run) where
@@ -198,7 +203,7 @@ start-made n key ws at p q i o s a b is = rw (a, b, is)
 
 -- ---- the tag: the rest of the message with its padding, then the digest block
 pub finish-made : (s : State) (ws tail tag : List ℕ) (at p q : ℕ) (inner last : Chain)
-    → length (map (λ (v : ℕ). v) (s .tail)) ≡ 64 → tail ≡ take (s .bytes % 64 - 0) (s .tail)
+    → tail ≡ take (s .bytes % 64 - 0) (s .tail)
     → blocks hash (s .n) (blocksIn (length tail))
     (publics (s .n) (ending (hash .standard) ((s .bytes / 64 + 1) * 64) tail))
     (used (s .n) (s .inner .shares)) ws at
@@ -209,7 +214,7 @@ pub finish-made : (s : State) (ws tail tag : List ℕ) (at p q : ℕ) (inner las
     → tag ≡ allBytes 4 (openWords (s .n) 5 (used (s .n) (last .shares)))
     → finish hash s ws at ≡ (tag, q)
 unfolding finish used
-finish-made s ws tail tag at p q inner last whole waits text digest opened =
+finish-made s ws tail tag at p q inner last waits text digest opened =
     let waited : tail ≡ take (s .bytes % 64) (s .tail) = waits ∙ rw (sub-zero (s .bytes % 64)) in
     let m = s .bytes / 64 + 1 in
     rw (← waited, ending-blocks (SHA1 32) (sha1-proper 32) m (m * 64) refl tail, text, digest, opened)

@@ -15,7 +15,9 @@ ghost use Rattle.padding.specs.Whole.{Hashable};
 use hmac::INNER;
 use hmac::OUTER;
 use numbers::DONE;
+use rules::BLOCK;
 use rules::BLOCK_BYTES;
+use rules::BLOCK_WORDS;
 use rules::CHAIN;
 use rules::CHAIN_WORDS;
 use rules::Chain;
@@ -31,11 +33,10 @@ fn cleared(n: usize, chain: Chain) -> Chain
     ensures { λ r. ⌜ r ≡ record { shares = filled 40 (used n (chain .shares)) } ⌝ }
 {
     let m = CHAIN_WORDS * n;
-    let all = chain.shares;
-    let mut made = [0u32; CHAIN];
-    let front = &mut made[0..m];
-    shares::copy(&all[0..m], front);
-    Chain { shares: made }
+    let mut all = chain.shares;
+    let rest = &mut all[m..CHAIN];
+    masked_words::clear(rest);
+    Chain { shares: all }
 }
 
 // A state made anew, of a tail that has 0 in its unfilled bytes.
@@ -84,8 +85,11 @@ pub fn start_at(n: usize, key: &[u32], words: &[u32], at: usize) -> Moved
         × (at + startDraws hash n ≤ length (now words)) ⌝ }
     ensures { λ r. ⌜ start hash n (now (key .entry)) (now (words .entry)) at ≡ (r .state, r .at) ⌝ }
 {
-    let inner = hmac::key_step(n, INNER, key, words, at);
-    let outer = hmac::key_step(n, OUTER, key, words, inner.at);
+    let end = BLOCK_WORDS * n;
+    let mut block0 = [0u32; BLOCK];
+    let block = &mut block0[0..end];
+    let inner = hmac::key_step(n, INNER, key, block, words, at);
+    let outer = hmac::key_step(n, OUTER, key, block, words, inner.at);
     Moved {
         state: state_of(n, 0, inner.chain, outer.chain, [0u8; BLOCK_BYTES]),
         at: outer.at,
@@ -119,26 +123,28 @@ fn gather(tail: &[u8], piece: &[u8], p: usize, z: &mut [u8])
     }
 }
 
-// Block j of the bytes that wait and then the piece into a chain, from the word at `at` on.
+// Block j of the bytes that wait and then the piece into a chain, from the word at `at` on. `block` is room for one.
 fn full_block(
     n: usize,
     chain: Chain,
     tail: &[u8],
     piece: &[u8],
     j: usize,
+    block: &mut [u32],
     words: &[u32],
     at: usize,
 ) -> Stepped
     requires { ⌜ (0 < n) × (n ≤ largest) × (64 * j + 64 ≤ length (now tail) + length (now piece))
-        × (at + hash .draws n ≤ length (now words)) ⌝ }
+        × (length (now block) ≡ 16 * n) × (at + hash .draws n ≤ length (now words)) ⌝ }
     ensures { λ r. ⌜ (hash .compress n (used n (chain .shares))
         (publics n (wordsOf 4 16 (drop (64 * j) (now (tail .entry) ++ now (piece .entry))))) (now (words .entry)) at
         ≡ (used n (r .chain .shares), r .at))
         × (r .at ≡ at + hash .draws n) ⌝ }
 {
-    let mut block = [0u8; BLOCK_BYTES];
-    gather(tail, piece, BLOCK_BYTES * j, &mut block);
-    hmac::block_step(n, chain, 0, &block, 0, words, at)
+    let mut bytes = [0u8; BLOCK_BYTES];
+    gather(tail, piece, BLOCK_BYTES * j, &mut bytes);
+    hmac::public_block(n, 0, &bytes, 0, block);
+    hash::compress(n, chain, block, words, at)
 }
 
 // Every full block of the bytes that wait and then the piece into a chain, in order, from the word at `at` on.
@@ -156,12 +162,15 @@ fn full_blocks(
         (now (tail .entry) ++ now (piece .entry)) (used n (chain .shares)) (now (words .entry)) at
         ≡ (used n (r .chain .shares), r .at) ⌝ }
 {
+    let end = BLOCK_WORDS * n;
+    let mut block0 = [0u32; BLOCK];
+    let block = &mut block0[0..end];
     let count = (tail.len() + piece.len()) / BLOCK_BYTES;
     let mut c = chain;
     let mut p = at;
     let mut j = 0;
     while j < count {
-        let next = full_block(n, c, tail, piece, j, words, p);
+        let next = full_block(n, c, tail, piece, j, block, words, p);
         c = next.chain;
         p = next.at;
         j += 1;
@@ -246,8 +255,11 @@ pub fn finish_at(state: State, tag: &mut [u8], words: &[u32], at: usize) -> usiz
     let all = state.tail;
     let tail = &all[0..waiting];
     let before = (bytes / BLOCK_BYTES + 1) * BLOCK_BYTES;
-    let inner = hmac::text_step(n, state.inner, before, tail, words, at);
-    let last = hmac::digest_step(n, inner.chain, state.outer, words, inner.at);
+    let end = BLOCK_WORDS * n;
+    let mut block0 = [0u32; BLOCK];
+    let block = &mut block0[0..end];
+    let inner = hmac::text_step(n, state.inner, before, tail, block, words, at);
+    let last = hmac::digest_step(n, inner.chain, state.outer, block, words, inner.at);
     hmac::tag_bytes(n, last.chain, tag);
     last.at
 }

@@ -1,6 +1,6 @@
 -- the words in use, in front of zeros
 use borrow.Author.Needs.{needs}
-use Rattle.sha1.proofs.Parts.{chain-room}
+use Rattle.rules.proofs.Loops.{chain-length}
 use Rattle.stream.proofs.Steps.{cleared-made}
 use Rattle.stream.proofs.cleared.Statement.{statement}
 use Rattle.stream.proofs.cleared.Tie as tie
@@ -13,8 +13,6 @@ cleared-spec =
     (λ c. search needs)
     (λ c. search needs)
     (λ c. search needs)
-    (λ c. search needs)
-    (λ c. search needs)
-    (λ c. search chain-room)
+    (λ c. search (needs, chain-length))
     (λ c κs. search needs)
     (λ c. search cleared-made))

@@ -7,5 +7,12 @@ use Rattle.stream.proofs.full_block.Tie as tie
 pub full-block-spec : {M : Type 1} → statement M
 full-block-spec =
     tie.close
-    (tie.spec (λ c. search needs) (λ c. search needs) (λ c κs. search needs) (λ c. search needs) (λ c κs. search needs)
+    (tie.spec
+    (λ c. search needs)
+    (λ c. search needs)
+    (λ c κs. search needs)
+    (λ c. search needs)
+    (λ c κs. search needs)
+    (λ c κs. search needs)
+    (λ c. search needs)
     (λ c. (search full-made, search needs)))

@@ -13,14 +13,14 @@ use Rattle.stream.proofs.full_blocks.Statement.{statement}
 use Rattle.stream.proofs.full_blocks.Tie as tie
 
 abbrev Inv-loop : tie.InvT-loop
-Inv-loop n tail piece words at count c₀ p₀ j₀ c p j =
+Inv-loop n tail piece words at end block₀ count c₀ p₀ j₀ block c p j =
     let text = tail ++ piece in
-    (j ≤ count) × (count ≡ (length tail + length piece) / 64) × (p ≡ at + j * hash .draws n)
+    (j ≤ count) × (length block ≡ 16 * n) × (count ≡ (length tail + length piece) / 64) × (p ≡ at + j * hash .draws n)
     × (fullBlocks hash n (count - j) (drop (64 * j) text) (used n (c .shares)) words p
     ≡ fullBlocks hash n ((length tail + length piece) / 64) text (used n (c₀ .shares)) words at)
 
 abbrev μ-loop : tie.MeasureT-loop
-μ-loop n tail piece words at count c₀ p₀ j₀ c p j = count - j
+μ-loop n tail piece words at end block₀ count c₀ p₀ j₀ block c p j = count - j
 
 pub full-blocks-spec : {M : Type 1} → statement M
 full-blocks-spec =
@@ -29,9 +29,13 @@ full-blocks-spec =
     Inv-loop
     μ-loop
     (λ c. search needs)
-    (λ c. (search needs, search needs, search needs, search full-begin))
-    (λ c κs. (search needs, search needs, search needs, search block-room))
     (λ c. search needs)
     (λ c. search needs)
-    (λ c. (search needs, search needs, search needs, search full-next))
+    (λ c. search needs)
+    (λ c. search needs)
+    (λ c. (search needs, search needs, search needs, search needs, search full-begin))
+    (λ c κs. (search needs, search needs, search needs, search needs, search block-room))
+    (λ c. search needs)
+    (λ c. search needs)
+    (λ c. (search needs, search needs, search needs, search needs, search full-next))
     (λ c. search full-end))
