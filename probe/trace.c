@@ -1,8 +1,8 @@
 // Runs a function of an x86-64 image under Unicorn, and hands each value that its instructions leave to count.c.
 //
 // The first run takes down the path and which steps are kept. In later runs the engine `watched` stops at every instruction of the
-// kept steps; between them `fast` runs, which only compares the path at every jump; `plain` runs a call and stops at
-// nothing. All work on the same memory.
+// kept steps; between them `fast` runs, which only compares the path at every jump; `plain` runs a call for what it
+// leaves, and looks at nothing but the stack pointer at every jump. All work on the same memory.
 #include "trace.h"
 #include <stdlib.h>
 #include <string.h>
@@ -41,6 +41,7 @@ static uint64_t touched, *touched_first, touched_count, touched_next;
 static uint64_t registers_before[REGISTERS][2];
 static uint64_t missed, missed_at, moved, moved_at;
 static uint64_t handed_at, handed_length;
+static uint64_t lowest;                      // where the stack pointer of `plain` was seen lowest
 
 static int unicorn_number(int number) {
     static const int general[GENERAL] = {
@@ -234,6 +235,14 @@ static void on_block(uc_engine *engine, uint64_t address, uint32_t size, void *u
         step += steps;
 }
 
+static void on_plain_block(uc_engine *engine, uint64_t address, uint32_t size, void *unused) {
+    uint64_t pointer;
+    (void)address, (void)size, (void)unused;
+    uc_reg_read(engine, UC_X86_REG_RSP, &pointer);
+    if (pointer < lowest)
+        lowest = pointer;
+}
+
 static void carry_over(uc_engine *from, uc_engine *to) {
     uint64_t value[2];
     for (int number = 0; number < REGISTERS; number++) {
@@ -293,7 +302,7 @@ static uc_err open_engine(uc_engine **engine, int hook_type, void *hook) {
         | uc_mem_map_ptr(*engine, data.at, data.length, UC_PROT_READ | UC_PROT_WRITE, data.bytes)
         | uc_mem_map_ptr(*engine, stack.at, stack.length, UC_PROT_READ | UC_PROT_WRITE, stack.bytes)
         | uc_mem_map(*engine, RETURN, PAGE, UC_PROT_ALL)
-        | (hook ? uc_hook_add(*engine, &handle, hook_type, hook, NULL, 1, 0) : 0);
+        | uc_hook_add(*engine, &handle, hook_type, hook, NULL, 1, 0);
 }
 
 static Region region(uint64_t at, uint64_t length) {
@@ -322,7 +331,7 @@ int probe_open(uint64_t image_at, const uint8_t *linked, uint64_t image_length, 
     handed_length = handed_bytes;
     counts_open(secrets, handed_bytes);
     return decoder_open() || open_engine(&watched, UC_HOOK_CODE, on_instruction)
-        || open_engine(&fast, UC_HOOK_BLOCK, on_block) || open_engine(&plain, 0, NULL);
+        || open_engine(&fast, UC_HOOK_BLOCK, on_block) || open_engine(&plain, UC_HOOK_BLOCK, on_plain_block);
 }
 
 // Fresh memory and registers: up to six arguments in registers, others on the stack behind the place of the return.
@@ -364,15 +373,18 @@ int probe_run(int secret, uint64_t entry, const uint64_t *arguments, int count, 
 }
 
 // One call over a stack full of `paint`, then `clear` from the same place (0: nothing); not 0 where the emulator
-// stops. `left` is given the stack below the caller, `length` its length, and the others what is in them then.
+// stops. `left` is given the stack below the caller, `length` its length, `reached` how far down the stack pointer of
+// the call was seen, and the others what is in them then.
 int probe_left(uint64_t entry, uint64_t clear, const uint64_t *arguments, int count, const uint8_t *on_stack,
                uint64_t on_stack_length, const uint8_t *bytes, uint8_t paint, const uint8_t **left, uint64_t *length,
-               uint64_t registers[REGISTERS][2], const uint8_t **data_after) {
+               uint64_t *reached, uint64_t registers[REGISTERS][2], const uint8_t **data_after) {
     const uint64_t top = TOP, back = RETURN;
     prepare(arguments, count, on_stack, on_stack_length, bytes);
     memset(stack.bytes, paint, TOP - STACK);
     carry_over(watched, plain);
+    lowest = TOP;
     uc_err error = uc_emu_start(plain, entry, RETURN, 0, 0);
+    *reached = TOP - lowest;
     if (clear && !error) {
         uc_reg_write(plain, UC_X86_REG_RSP, &top);
         memcpy(stack.bytes + (TOP - STACK), &back, 8);
