@@ -19,6 +19,10 @@ class Image:
         self.code = with_segments(elf)
         self.functions = sorted(functions_of(elf))
 
+    def exported(self):
+        """The names of the functions that users call."""
+        return {name for _, name, _ in self.functions if name.startswith("flamivorse_")}
+
     def entry(self, function):
         return self.span(function)[0]
 

@@ -29,7 +29,7 @@ def left_by(tracer, which, clear, seed):
     given = (arguments, len(arguments), frame.stack, u64(len(frame.stack)), frame.data, PAINT[0])
     found = (ctypes.byref(stack), ctypes.byref(length), ctypes.byref(reached), registers, ctypes.byref(data))
     if tracer.library.probe_left(u64(tracer.entry), u64(clear), *given, *found):
-        raise Stopped("the emulator stops", leak=False)
+        raise Stopped("the emulator stops")
     if not clear:
         tracer.accept(frame, registers[0][0], data)
     others = b"".join(bytes(value) for number, value in enumerate(registers) if number != STACK_POINTER)

@@ -1,7 +1,6 @@
 #!/usr/bin/env python3
 """Does a single value in the compiled code depend on a secret that the caller passes in shares? See README.md."""
 import argparse
-import multiprocessing
 import os
 import sys
 import tempfile
@@ -15,7 +14,7 @@ import calls
 import controls
 import left
 from image import Image
-from tracer import FEWEST, FLAGS, REGISTER, SECRETS, WORD, Stopped, Tracer, compile_tracer, text_of
+from tracer import FEWEST, FLAGS, REGISTER, SECRETS, WORD, Stopped, Tracer, compile_tracer, in_own_process, text_of
 
 REGISTERS = "rax rcx rdx rbx rsp rbp rsi rdi r8 r9 r10 r11 r12 r13 r14 r15".split() + [f"xmm{i}" for i in range(16)]
 FLAG_NAMES = "CF PF ZF SF OF".split()
@@ -133,25 +132,12 @@ def examine_left(job):
     return judge(job.call, found.kept > 0, fault, text, [])
 
 
-def send_outcome(sender, job):
+def outcome_of(job):
+    """What is said of one call; one that stops is an error or a leak."""
     try:
-        sender.send(job.examine(job))
+        return in_own_process(job.examine, job)
     except Stopped as stopped:
-        sender.send(judge(job.call, stopped.leak, not stopped.leak, str(stopped), []))
-
-
-def in_own_process(job):
-    """One call in a process of its own; an error where that ends without an outcome."""
-    receiver, sender = multiprocessing.Pipe(duplex=False)
-    process = multiprocessing.Process(target=send_outcome, args=(sender, job))
-    process.start()
-    sender.close()
-    try:
-        return receiver.recv()
-    except EOFError:
-        return judge(job.call, False, True, "the tracer broke off", [])
-    finally:
-        process.join()
+        return judge(job.call, stopped.leak, not stopped.leak, str(stopped), [])
 
 
 def totals(outcomes, seconds):
@@ -181,8 +167,7 @@ def jobs_of(library, options):
 def untested(archive):
     """Functions of the archive that no call is for. The queries, which end so, take no secret."""
     known = {call.function for call in calls.CALLS} | {left.CLEAR}
-    names = {name for _, name, _ in Image(archive).functions if name.startswith("flamivorse_")} - known
-    names = sorted(name for name in names if not name.endswith("_words"))
+    names = sorted(name for name in Image(archive).exported() - known if not name.endswith("_words"))
     return [Outcome("error", False, [f"NOT AS EXPECTED: no call of {name} is tested"]) for name in names]
 
 
@@ -210,7 +195,7 @@ def main():
     with tempfile.TemporaryDirectory() as folder:
         jobs = list(jobs_of(compile_tracer(folder), options))
         with ThreadPoolExecutor(options.jobs) as threads:
-            for outcome in threads.map(in_own_process, jobs):
+            for outcome in threads.map(outcome_of, jobs):
                 print(*outcome.lines, sep="\n", flush=True)
                 outcomes.append(outcome)
     print(totals(outcomes, time.time() - start))

@@ -1,5 +1,6 @@
 """The tracer, compiled from its C sources, and one call run under it."""
 import ctypes
+import multiprocessing
 import os
 import subprocess
 from dataclasses import dataclass, field
@@ -44,9 +45,33 @@ class Measured:
 class Stopped(Exception):
     """A run that did not go as the others: why, and whether that is a leak."""
 
-    def __init__(self, why, leak):
+    def __init__(self, why, leak=False):
         super().__init__(why)
         self.leak = leak
+
+
+def send_outcome(sender, look, arguments):
+    try:
+        sender.send(look(*arguments))
+    except Stopped as stopped:
+        sender.send(stopped)
+
+
+def in_own_process(look, *arguments):
+    """What this says of one call, in a process of its own; Stopped where that ends without an outcome."""
+    receiver, sender = multiprocessing.Pipe(duplex=False)
+    process = multiprocessing.Process(target=send_outcome, args=(sender, look, arguments))
+    process.start()
+    sender.close()
+    try:
+        outcome = receiver.recv()
+    except EOFError:
+        outcome = Stopped("the tracer broke off")
+    finally:
+        process.join()
+    if isinstance(outcome, Stopped):
+        raise outcome
+    return outcome
 
 
 def compile_tracer(folder):
@@ -71,7 +96,7 @@ class Tracer:
         self.library.probe_values.restype = self.library.probe_findings.restype = u64
         self.entry = image.entry(call.function)
         if self.entry is None:
-            raise Stopped(f"there is no function {call.function}", leak=False)
+            raise Stopped(f"there is no function {call.function}")
         self.inputs = Inputs(call, SECRETS, seed)
         frame = self.inputs.draw(0)
         handed = call.hands_back
@@ -80,7 +105,7 @@ class Tracer:
         copy = image.span("private_copy") if image.entry("private_copy") else (0, 0)
         kept = (call.visits, u64(call.sample), u64(seed * SPREAD), *map(u64, copy))
         if self.library.probe_open(*memory, SECRETS, *kept, *opened):
-            raise Stopped("the emulator does not start", leak=False)
+            raise Stopped("the emulator does not start")
 
     def run(self, which):
         """One run with a secret; it must take the path of the others, and give the number that is expected."""
@@ -93,7 +118,7 @@ class Tracer:
             raise Stopped(f"the path depends on the data at {self.image.place(result[1])}", leak=True)
         if ending:
             why = "loses the path" if ending == LOST else f"stops with error {ending - EMULATOR}"
-            raise Stopped(f"the emulator {why} at {self.image.place(result[1])}", leak=False)
+            raise Stopped(f"the emulator {why} at {self.image.place(result[1])}")
         self.accept(frame, result[0], after)
 
     def accept(self, frame, answer, after):
@@ -103,7 +128,7 @@ class Tracer:
             if isinstance(argument, Result):
                 number = int.from_bytes(bytes(after[frame.offsets[argument] + i] for i in range(4)), "little")
         if self.call.number not in (None, number):
-            raise Stopped(f"it answers {number}, not {self.call.number}", leak=False)
+            raise Stopped(f"it answers {number}, not {self.call.number}")
 
     def measure(self, runs):
         """So many runs for each secret; of a call that must be flagged, the fewest if these show it."""
