@@ -1,4 +1,4 @@
-"""The calls of the archive that work on shares, the long ones first. The queries take no secret."""
+"""The calls of the archive: those that work on shares, the long ones first, and the queries, which take no secret."""
 import struct
 from dataclasses import replace
 
@@ -72,8 +72,8 @@ def streaming(n, quick=0, deep=0):
     tag = Room(20, width=8)
     return [
         streamed("hmac_sha1_start", (Number(n), Shares(Secret("key", n, words=16))), 2),
-        streamed("hmac_sha1_feed", (*state(n, 60), Text(b"abcde")), 1),
-        streamed("hmac_sha1_feed", (*state(n, 60), Text(b"abc")), 0, " (no block)"),
+        streamed("hmac_sha1_feed", (*state(n, 60), Text(b"abcde")), 1, ", filling a block"),
+        streamed("hmac_sha1_feed", (*state(n, 60), Text(b"abc")), 0, ", filling none"),
         streamed("hmac_sha1_finish", (*state(n, 3), tag), 2, hands_back=tag),
     ]
 
@@ -126,6 +126,18 @@ def two_share_forms():
     ]
 
 
+def queries(n):
+    """How many words the calls draw."""
+    by_count = "split refresh expand and add a2b b2a sha1_compress hmac_sha1_start".split()
+    asked = {name: (Number(n),) for name in by_count}
+    asked |= {"split_key": (Number(n), Number(64)), "hmac_sha1": (Number(n), Number(3))}
+    asked |= {"hmac_sha1_feed": (*state(n, 60), Number(5)), "hmac_sha1_finish": state(n, 3)}
+    return [
+        Call(f"{name}_words, {n} shares", f"flamivorse_{name}_words", arguments, number=0)
+        for name, arguments in asked.items()
+    ]
+
+
 def short(n):
     return [one for part in (conversions, operations, splittings, openings) for one in part(n)]
 
@@ -142,6 +154,7 @@ COPYING = [
 SHORT = [one for n in (8, 4, 2) for one in short(n)]
 CALLS = [*COPYING, sha1_compress(8, quick=40, deep=200), *SHORT, *two_share_forms()]
 
-# Every call at every share count, made once each to see what it leaves behind: nothing, once it is cleared.
-EVERY = [one for n in (8, 4, 2, 1) for one in (hmac_sha1(n), *streaming(n), sha1_compress(n), *short(n))]
-ONCE = [replace(one, name=f"left by {one.name}", leaks=False) for one in (*EVERY, *two_share_forms())]
+# Every call by share count, made once each to see what it leaves behind: nothing, once it is cleared.
+EVERY = {n: [hmac_sha1(n), *streaming(n), sha1_compress(n), *short(n)] for n in (8, 4, 2, 1)}
+EVERY[2] += two_share_forms()
+ONCE = [replace(one, name=f"left by {one.name}", leaks=False) for some in EVERY.values() for one in some]
