@@ -258,7 +258,7 @@ pub extern "C" fn flamivorse_sha1_compress(
             chain: chain,
         };
     }
-    let made = sha1::compress(n, chain, block, words, 0);
+    let made = sha1::compress_copy(n, chain, block, words, 0);
     let next = made.chain;
     Compressed {
         number: DONE,

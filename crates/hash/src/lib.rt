@@ -50,8 +50,8 @@ pub fn start(n: usize) -> Chain
     Chain { shares: all }
 }
 
-// One compression, of a block of 16n words into a chain, from the word at `at` on.
-pub fn compress(n: usize, chain: Chain, block: &[u32], words: &[u32], at: usize) -> Stepped
+// One compression, of a block of 16n words into a chain, from the word at `at` on. The block is used up.
+pub fn compress(n: usize, chain: Chain, block: &mut [u32], words: &[u32], at: usize) -> Stepped
     requires { ⌜ (0 < n) × (n ≤ largest) × (length (now block) ≡ 16 * n) × (at + hash .draws n ≤ length (now words)) ⌝ }
     ensures { λ r. ⌜ (hash .compress n (used n (chain .shares)) (now (block .entry)) (now (words .entry)) at
         ≡ (used n (r .chain .shares), r .at))

@@ -53,7 +53,7 @@ module _ (n : ℕ) (s : List ℕ) where
 -- the used words of a chain, lent and opened
 pub lent-used : (n : ℕ) (chain : List ℕ) → length (map (λ (v : ℕ). v) chain) ≡ 5 * largest → n ≤ largest
     → length (take (5 * n - 0) chain) ≡ 5 * n
-lent-used n chain e h = rw (sub-zero (5 * n)) (length-take-le (5 * n) chain (chain-room n chain e h))
+lent-used n chain e h = rw (sub-zero (5 * n)) (length-take-le (5 * n) chain (chain-room chain e n h))
 
 pub tag-opened : (n : ℕ) (chain tag : List ℕ) → tag ≡ allBytes 4 (openWords n 5 (take (5 * n - 0) chain))
     → tag ≡ allBytes 4 (openWords n 5 (used n chain))

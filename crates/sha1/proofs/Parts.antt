@@ -4,12 +4,15 @@ use mathlib.Core.Path.{_≡_, sym, ap, _∙_}
 use mathlib.Core.List.{List, [], _++_, map, append-nil}
 use native.Mathlib.Nat.{add-mul, sub-zero}
 use native.Mathlib.Omega.{arith}
-use lib.ListN.{length, take, drop, replicate, length-drop, drop-of-length-le}
+use lib.ListN.{length, take, drop, replicate, length-drop, drop-of-length-le, length-replicate}
+use lib.ListN.{replicate-append-replicate}
 use lib.Seq.{length-take-le, take-at, drop-at, take-add, drop-drop}
 use Rattle.rules.specs.Numbers.{largest}
 use Rattle.rules.specs.Shares.{add}
 use Rattle.rules.specs.Convert.{Adder}
 use Rattle.rules.specs.Counts.{andDraws, roundsAnds, compressAnds, compressDraws}
+use Rattle.rules.specs.declared.Chain.{Chain}
+use Rattle.rules.specs.Stream.{filled}
 use Rattle.rules.specs.Sha1.{word, rounds, schedule, sums, compress, used, chainOf}
 use Rattle.rules.proofs.Loops.{Run, times-suc, chain-length}
 use Rattle.masked_words.specs.Words.{firsts}
@@ -129,18 +132,26 @@ module _ (chain : List ℕ) (whole : length (map (λ (v : ℕ). v) chain) ≡ 5 
   -- zeros behind the used words
   pub cleared-made : (n : ℕ) (rest : List ℕ) → n ≤ largest
       → rest ≡ replicate (length (take (5 * largest - 5 * n) (drop (5 * n) chain))) 0
-      → take (5 * n) chain ++ (rest ++ drop (5 * largest - 5 * n) (drop (5 * n) chain)) ≡ chainOf n (used n chain)
-  unfolding chainOf used
+      → _≡_ {A = Chain}
+      (record { shares = take (5 * n) chain ++ (rest ++ drop (5 * largest - 5 * n) (drop (5 * n) chain)) })
+      (record { shares = filled 40 (used n chain) })
+  unfolding used
   cleared-made n rest few e =
+      let m = 5 * largest - 5 * n in
       let behind = drop (5 * n) chain in
-      let size : length behind ≡ 5 * largest - 5 * n =
-      length-drop (5 * n) chain ∙ omega (arith, chain-length chain whole) in
-      let none : drop (5 * largest - 5 * n) behind ≡ [] = drop-of-length-le behind {i = 5 * largest - 5 * n} (omega arith) in
-      rw (none, append-nil rest, e, length-take-le (5 * largest - 5 * n) behind (omega arith))
+      let size : length behind ≡ m = length-drop (5 * n) chain ∙ omega (arith, chain-length chain whole) in
+      let none : drop m behind ≡ [] = drop-of-length-le behind {i = m} (omega arith) in
+      rw (none, append-nil rest, e, length-take-le m behind (omega arith), length-used n few)
 
   -- the used words, lent; new ones in their place
-  module _ (n : ℕ) (few : n ≤ largest) (all : List ℕ) (is : all ≡ chainOf n (used n chain))
+  module _ (n : ℕ) (few : n ≤ largest) (old : Chain) (is : old ≡ record { shares = filled 40 (used n chain) })
       (z : List ℕ) (size : length z ≡ 5 * n) where
+    abbrev all : List ℕ
+    all = old .shares
+
+    zeros : all ≡ used n chain ++ replicate (40 - 5 * n) 0
+    zeros = ap (λ (c : Chain). c .shares) is ∙ ap (λ m. used n chain ++ replicate (40 - m) 0) (length-used n few)
+
     record-used : used n (z ++ drop (5 * n - 0) all) ≡ z
     unfolding used
     record-used = take-at z (drop (5 * n - 0) all) (5 * n) size
@@ -148,15 +159,15 @@ module _ (chain : List ℕ) (whole : length (map (λ (v : ℕ). v) chain) ≡ 5 
     pub record-chain : (let r = z ++ drop (5 * n - 0) all in r ≡ chainOf n (used n r))
     unfolding chainOf
     record-chain =
-        rw (record-used, sub-zero (5 * n), is) (ap (λ y. z ++ y) (drop-at (used n chain) _ (5 * n) (length-used n few)))
+        rw (record-used, sub-zero (5 * n), zeros)
+        (ap (λ y. z ++ y) (drop-at (used n chain) _ (5 * n) (length-used n few)))
 
     pub record-made : (k : ℕ) (add : Adder) (block ws : List ℕ) (at p : ℕ)
         → compress k add n (take (5 * n - 0) all) block ws at ≡ (z, p)
         → compress k add n (used n chain) block ws at ≡ (used n (z ++ drop (5 * n - 0) all), p)
-    unfolding chainOf
     record-made k add block ws at p e =
         let lent : take (5 * n - 0) all ≡ used n chain =
-        rw (sub-zero (5 * n), is) (take-at (used n chain) _ (5 * n) (length-used n few)) in
+        rw (sub-zero (5 * n), zeros) (take-at (used n chain) _ (5 * n) (length-used n few)) in
         rw (record-used, ← lent) e
 
 -- ---- compress_copy: a copy of the block
@@ -164,6 +175,17 @@ pub copy-made : (k : ℕ) (add : Adder) (n : ℕ) (h block u ws : List ℕ) (at 
     → compress k add n h u ws at ≡ o → compress k add n h block ws at ≡ o
 copy-made k add n h block u ws at o e g = rw e at g
 
+-- ---- what callers lend of a record, and zeros of which some are
 pub used-lent : (n : ℕ) (chain : List ℕ) → take (5 * n - 0) chain ≡ used n chain
 unfolding used
 used-lent n chain = rw (sub-zero (5 * n))
+
+pub zeros-after : (m n : ℕ) → n ≤ m → drop {A = ℕ} (n - 0) (replicate m 0) ≡ replicate (m - n) 0
+zeros-after m n h =
+    rw (sub-zero n)
+    (ap (λ k. drop n (replicate k 0)) whole
+    ∙ ap (drop n) (sym (replicate-append-replicate n (m - n) 0))
+    ∙ drop-at (replicate n 0) (replicate (m - n) 0) n (length-replicate n 0))
+  where
+    whole : m ≡ n + (m - n)
+    whole = omega arith

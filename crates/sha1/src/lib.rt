@@ -6,6 +6,7 @@ ghost use lib.ListN.{length, drop};
 ghost use Rattle.rules.specs.Numbers.{largest};
 ghost use Rattle.rules.specs.Shares.{add};
 ghost use Rattle.rules.specs.Sha1.{word, sums, compress, used, chainOf};
+ghost use Rattle.rules.specs.Stream.{filled};
 ghost use Rattle.rules.specs.Counts.{andDraws, compressDraws};
 ghost use Rattle.masked_words.specs.Words.{Sized, firsts};
 use masked_words::add_in;
@@ -74,12 +75,11 @@ fn compress_at(n: usize, block: &mut [u32], z: &mut [u32], words: &[u32], at: us
 // A chain with 0 in its unused words.
 pub fn cleared(n: usize, chain: Chain) -> Chain
     requires { ⌜ n ≤ largest ⌝ }
-    ensures { λ r. ⌜ r .shares ≡ chainOf n (used n (chain .shares)) ⌝ }
+    ensures { λ r. ⌜ r ≡ record { shares = filled 40 (used n (chain .shares)) } ⌝ }
 {
     let m = CHAIN_WORDS * n;
-    let e = CHAIN;
     let mut all = chain.shares;
-    let rest = &mut all[m..e];
+    let rest = &mut all[m..CHAIN];
     clear(rest);
     Chain { shares: all }
 }

@@ -24,21 +24,6 @@ use Rattle.hash.specs.Hash.{hash}
 use Rattle.padding.specs.Whole.{blocksIn}
 use Rattle.sha1.proofs.Parts.{zeros-after}
 
--- ---- a chain with 0 in its unused words
-pub cleared-made : (n : ℕ) (chain x : List ℕ) → n ≤ largest → length (map (λ (v : ℕ). v) chain) ≡ 5 * largest
-    → (let rest = drop (5 * n) chain in
-    x ≡ replicate (length (take (5 * largest - 5 * n) rest)) 0
-    → _≡_ {A = Chain} (record { shares = take (5 * n) chain ++ (x ++ drop (5 * largest - 5 * n) rest) })
-    (record { shares = filled 40 (used n chain) }))
-unfolding used
-cleared-made n chain x few whole e =
-    let rest = drop (5 * n) chain in
-    let m = 5 * largest - 5 * n in
-    let long : length rest ≡ m = rw (length-drop (5 * n) chain, chain-length chain whole) in
-    let front : length (take (5 * n) chain) ≡ 5 * n =
-    length-take-le (5 * n) chain (omega (arith, chain-length chain whole)) in
-    rw (e, take-all m rest (omega arith), drop-of-length-le rest {i = m} (omega arith), append-nil, long, front)
-
 -- ---- the bytes that wait and then the piece
 module _ (tail piece : List ℕ) where
   pub waiting-byte : (i : ℕ) → i < length tail → getD tail i 0 ≡ getD (tail ++ piece) i 0

@@ -19,25 +19,12 @@ use rules::BLOCK;
 use rules::BLOCK_BYTES;
 use rules::BLOCK_WORDS;
 use rules::CHAIN;
-use rules::CHAIN_WORDS;
 use rules::Chain;
 use rules::Fed;
 use rules::State;
 use sha1::Stepped;
 
 // ---- states
-
-// A chain with 0 in its unused words.
-fn cleared(n: usize, chain: Chain) -> Chain
-    requires { ⌜ n ≤ largest ⌝ }
-    ensures { λ r. ⌜ r ≡ record { shares = filled 40 (used n (chain .shares)) } ⌝ }
-{
-    let m = CHAIN_WORDS * n;
-    let mut all = chain.shares;
-    let rest = &mut all[m..CHAIN];
-    masked_words::clear(rest);
-    Chain { shares: all }
-}
 
 // A state made anew, of a tail that has 0 in its unfilled bytes.
 fn state_of(n: usize, bytes: usize, inner: Chain, outer: Chain, tail: [u8; BLOCK_BYTES]) -> State
@@ -55,8 +42,8 @@ fn state_of(n: usize, bytes: usize, inner: Chain, outer: Chain, tail: [u8; BLOCK
         n: n,
         bytes: bytes,
         finished: 0,
-        inner: cleared(n, inner),
-        outer: cleared(n, outer),
+        inner: sha1::cleared(n, inner),
+        outer: sha1::cleared(n, outer),
         tail: tail,
     }
 }
