@@ -77,9 +77,9 @@ pub fn cleared(n: usize, chain: Chain) -> Chain
     requires { ⌜ n ≤ largest ⌝ }
     ensures { λ r. ⌜ r ≡ record { shares = filled 40 (used n (chain .shares)) } ⌝ }
 {
-    let m = CHAIN_WORDS * n;
+    let end = CHAIN_WORDS * n;
     let mut all = chain.shares;
-    let rest = &mut all[m..CHAIN];
+    let rest = &mut all[end..CHAIN];
     clear(rest);
     Chain { shares: all }
 }
