@@ -146,14 +146,7 @@ fn round_at(
 }
 
 // Round t, with the first word of the window u, which then slides on. The state begins one word lower in each round.
-fn round_of(
-    n: usize,
-    t: usize,
-    u: &mut [u32],
-    s: &mut [u32],
-    words: &[u32],
-    at: usize,
-) -> usize
+fn round_of(n: usize, t: usize, u: &mut [u32], s: &mut [u32], words: &[u32], at: usize) -> usize
     requires { ⌜ (t < 80) × (0 < n) × (n ≤ largest) × (length (now u) ≡ 16 * n) × (length (now s) ≡ 5 * n)
         × (at + (quarterAnds (t / 20) * andDraws n + 128 * andDraws n) ≤ length (now words)) ⌝ }
     ensures { λ p. ⌜ (round 32 (add 32) n (t / 20) (word n 0 (turned n (t % 16) (now (u .entry))))
@@ -163,15 +156,7 @@ fn round_of(
         × (turned n ((t + 1) % 16) (now (u .exit)) ≡ slid 32 n t (turned n (t % 16) (now (u .entry)))) ⌝ }
 {
     let w = turned_word(u, n, BLOCK_WORDS, t % BLOCK_WORDS, 0);
-    let p = round_at(
-        n,
-        t / QUARTER,
-        (ROUNDS - t) % CHAIN_WORDS,
-        w,
-        s,
-        words,
-        at,
-    );
+    let p = round_at(n, t / QUARTER, (ROUNDS - t) % CHAIN_WORDS, w, s, words, at);
     slide(n, t, u);
     p
 }

@@ -32,9 +32,14 @@ round-of-requires : tie.Need-round-of-requires Inv-loop μ-loop
 round-of-requires c κs = (search needs, search needs, search needs, search needs, search needs, search round-room)
 
 loop-again : tie.Need-loop-again Inv-loop μ-loop
-loop-again c =
-    (search needs, search needs, search needs, search round-after, search window-next,
-    search (rounds-next, window-word))
+loop-again c = (
+  search needs,
+  search needs,
+  search needs,
+  search round-after,
+  search window-next,
+  search (rounds-next, window-word),
+)
 
 returns : tie.Need-returns Inv-loop μ-loop
 returns c = (search rounds-end, search rounds-after)
