@@ -66,7 +66,8 @@ module _ (add : Adder) (n m : ℕ) (h s ws : List ℕ) (i at : ℕ) (z : List �
       let place : (i + 1) * n ≡ i * n + n = omega arith in
       let old : add (word n i h) (word n i s) ws at ≡ (word n i z′, p) = rw (ap (take n) rest) at e in
       rw (place, take-add (i * n) n z′, f)
-      (sym (ap (λ (r : Run). sums add n h s (m - (i + 1)) (i + 1) (firsts n i z ++ r .0) ws (r .1)) old) ∙ rw left at inv)
+      (sym (ap (λ (r : Run). sums add n h s (m - (i + 1)) (i + 1) (firsts n i z ++ r .0) ws (r .1)) old)
+      ∙ rw left at inv)
 
   pub rest-next : (z′ : List ℕ) → drop (i * n) z ≡ drop (i * n) h → drop ((i + 1) * n) z′ ≡ drop ((i + 1) * n) z
       → drop ((i + 1) * n) z′ ≡ drop ((i + 1) * n) h

@@ -5,18 +5,18 @@ use mathlib.Core.List.{List, [], _++_, map, append-nil}
 use native.Mathlib.Omega.{arith}
 use native.Mathlib.Nat.{sub-zero, add-mul}
 use lib.ListN.{length, getD, set, take, drop, replicate, length-append, length-drop, length-map, take-append-drop}
-use lib.ListN.{List·getD-append, drop-of-length-le}
+use lib.ListN.{List·getD-append}
 use lib.Seq.{take-at, take-all, drop-drop, getD-append-add, getD-take, getD-drop, length-take-le}
 use Rattle.words.proofs.Stores.{filled-next, filled-end}
 use Rattle.rules.specs.declared.Chain.{Chain}
 use Rattle.rules.specs.declared.State.{State}
-use Rattle.rules.specs.Numbers.{largest, longestMessage}
+use Rattle.rules.specs.Numbers.{longestMessage}
 use Rattle.rules.specs.Hash.{numberOf, allBytes, wordsOf, ending}
 use Rattle.rules.specs.Standard.{SHA1, H0}
 use Rattle.rules.specs.Sha1.{publics, openWords, used}
 use Rattle.rules.specs.Hmac.{marked, blocks, digestPadding}
 use Rattle.rules.specs.Stream.{filled, state, start, fullBlocks, feed, finish}
-use Rattle.rules.proofs.Loops.{Run, chain-length}
+use Rattle.rules.proofs.Loops.{Run}
 use Rattle.rules.proofs.Bytes.{length-words, words-front}
 use Rattle.rules.proofs.Hashes.{ending-front, ending-blocks}
 use Rattle.rules.proofs.Tags.{sha1-proper}
