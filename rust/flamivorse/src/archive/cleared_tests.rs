@@ -135,7 +135,7 @@ fn shares_are_found_after_the_call_of_the_archive() {
         };
         call.found.look();
         assert_eq!(answer.number, 0);
-        assert!(call.found.count(&call.block) > 0);
+        assert!(call.found.count(&answer.chain.shares[..5 * n]) > 0);
     }
 }
 
