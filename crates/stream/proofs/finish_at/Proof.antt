@@ -5,6 +5,9 @@ use Rattle.stream.proofs.Steps.{tail-room, last-fits, last-room, digest
 use Rattle.stream.proofs.finish_at.Statement.{statement}
 use Rattle.stream.proofs.finish_at.Tie as tie
 
+returns : tie.Need-returns
+returns c = search finish-made
+
 pub finish-at-spec : {M : Type 1} → statement M
 finish-at-spec =
     tie.close
@@ -22,4 +25,4 @@ finish-at-spec =
     (λ c κs. (search needs, search needs, search needs, search digest-room))
     (λ c κs. search needs)
     (λ c. search needs)
-    (λ c. search finish-made))
+    returns)
