@@ -1,13 +1,13 @@
 -- Words in shares, from the parts that the code works out one after the other.
 use Prim.Native.Nat.{ℕ, zero, suc, _+_, _-_, _*_, _≤_, _<_}
 use mathlib.Core.Path.{_≡_, refl, sym, ap, _∙_}
-use mathlib.Core.List.{List, [], _++_, map}
+use mathlib.Core.List.{List, [], map}
 use native.Mathlib.Nat.{suc-mul, mul-le-mul-right}
 use native.Mathlib.Numerals.{add-one}
 use native.Mathlib.Omega.{arith}
 use lib.ListN.{length, getD, set, take, drop, replicate, length-drop, length-map, replicate-append-replicate}
-use lib.Seq.{sets, length-take-le, take-all, take-suc-set}
-use Rattle.words.proofs.Stores.{take-sets, filled-next, filled-end}
+use lib.Seq.{length-take-le, take-all, take-suc-set}
+use Rattle.words.proofs.Stores.{filled-next, filled-end}
 use Rattle.rules.specs.Sha1.{word, public}
 use Rattle.rules.proofs.Bytes.{map-at}
 use Rattle.masked_words.specs.Words.{firsts}
@@ -24,21 +24,7 @@ word-part n w s h =
 pub word-room : (n t m : ℕ) (s : List ℕ) → t < m → length s ≡ m * n → t * n + n ≤ length s
 word-room n t m s h e = omega (arith, mul-le-mul-right n h, suc-mul t n)
 
--- ---- put_word, move_word: a word stored after those before it
-module _ (n w : ℕ) (z z′ : List ℕ) where
-  pub put-word-made : (x : List ℕ) → length x ≡ n → w * n + n ≤ length z → z′ ≡ sets z (w * n) x
-      → firsts n (w + 1) z′ ≡ firsts n w z ++ x
-  unfolding firsts
-  put-word-made x e h g =
-      let next : (w + 1) * n ≡ w * n + length x = omega arith in
-      rw (next, g) (take-sets z x (w * n) (omega arith))
-
-  -- what it is comes from how it was made
-  pub put-word-of : (x y : List ℕ) → x ≡ y → firsts n (w + 1) z′ ≡ firsts n w z ++ x
-      → firsts n (w + 1) z′ ≡ firsts n w z ++ y
-  put-word-of x y e g = rw (← e) g
-
--- no word
+-- ---- several words, filled from the front: none so far
 pub firsts-none : (n : ℕ) (z : List ℕ) → firsts n 0 z ≡ []
 unfolding firsts
 firsts-none n z = let none : 0 * n ≡ 0 = omega arith in rw none

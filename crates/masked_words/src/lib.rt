@@ -1,7 +1,7 @@
 // Words in n shares each, one after the other: share i of word w stands at place w·n + i.
-// Taking and storing one of them, and what SHA-1 does with whole words.
+// Taking one of them, a ring of them, and what SHA-1 does with whole words.
 ghost use mathlib.Core.Path.{_≡_};
-ghost use mathlib.Core.List.{[], _∷_, _++_};
+ghost use mathlib.Core.List.{[], _∷_};
 ghost use Prim.Native.Nat.{_+_, _*_, _%_, _≤_, _<_};
 ghost use lib.Bits.{bitXor};
 ghost use lib.ListN.{length, replicate};
@@ -9,7 +9,7 @@ ghost use lib.Seq.{sets};
 ghost use Rattle.rules.specs.Shares.{each, add};
 ghost use Rattle.rules.specs.Sha1.{word, public, rotl, rotated};
 ghost use Rattle.rules.specs.Counts.{andDraws};
-ghost use Rattle.masked_words.specs.Words.{Masked, firsts, turned};
+ghost use Rattle.masked_words.specs.Words.{Masked, turned};
 
 // ---- places
 
@@ -21,14 +21,6 @@ pub fn word(s: &[u32], n: usize, w: usize) -> &[u32]
     let a = w * n;
     let e = a + n;
     &s[a..e]
-}
-
-// x becomes word w of z, after those before it.
-pub fn put_word(n: usize, w: usize, x: &[u32], z: &mut [u32])
-    requires { ⌜ (length (now x) ≡ n) × (w * n + n ≤ length (now z)) ⌝ }
-    ensures { λ _. ⌜ firsts n (w + 1) (now (z .exit)) ≡ firsts n w (now (z .entry)) ++ now (x .entry) ⌝ }
-{
-    shares::put(x, z, w * n);
 }
 
 // ---- a ring of m words, from word r on
