@@ -1,19 +1,7 @@
--- What the code of this crate goes by: tests one after the other, and a number for each share count.
+-- What the code of this crate goes by: tests one after the other.
 use Prim.Native.Nat.{ℕ}
-use lib.Dec.{eqb}
-use mathlib.Core.Bool.{Bool}
-use Rattle.rules.specs.declared.Answer.{Answer}
-use Rattle.rules.specs.Numbers.{largest, Test, test, settled}
-use Rattle.rules.specs.Convert.{choose}
+use Rattle.rules.specs.Numbers.{Test, settled}
 
 -- one more test: the number so far, or, where that is 0, what this test gives
 abbrev pub after : ℕ → Test → ℕ
 after number t = settled number t number
-
--- a number for 2, 4 and 8 shares
-abbrev pub byCount : ℕ → ℕ → ℕ → ℕ → ℕ
-byCount n two four eight = choose (eqb n 2) two (choose (eqb n 4) four (choose (eqb n largest) eight 0))
-
--- a query by a text too
-abbrev pub byText : Answer → Bool → Answer
-byText words fits = record { number = after (words .number) (test 4 fits); drawn = choose fits (words .drawn) 0 }

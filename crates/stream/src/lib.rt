@@ -201,7 +201,7 @@ pub fn feed(state: State, piece: &[u8], words: &[u32]) -> Feeding
     let n = state.n;
     let bytes = state.bytes;
     let mark = state.finished;
-    let need = numbers::feed_words(n, bytes, mark, piece.len()).drawn;
+    let need = counts::feed_words(n, bytes, mark, piece.len()).drawn;
     let number = numbers::feeding(n, bytes, mark, piece.len(), need, words.len());
     if number != DONE {
         return Feeding {

@@ -1,0 +1,179 @@
+// The queries: the number, and how many words a call draws, 0 where it is refused.
+// No public function here has a precondition.
+ghost use mathlib.Core.Path.{_≡_};
+ghost use mathlib.Core.Bool.{true};
+ghost use mathlib.Core.List.{[], _∷_};
+ghost use Prim.Native.Nat.{_+_, _-_, _*_, _≤_};
+ghost use lib.Dec.{leb};
+ghost use Rattle.width.specs.Width.{bits};
+ghost use Rattle.rules.specs.Numbers.{longestKey, longestMessage, allowed, fit, test, first};
+ghost use Rattle.rules.specs.Convert.{choose};
+ghost use Rattle.rules.specs.Standard.{SHA1};
+ghost use Rattle.rules.specs.Counts.{refreshDraws, andDraws, addDraws, toBoolDraws, toArithDraws};
+ghost use Rattle.rules.specs.Counts.{compressDraws, compressions, hmacDraws, startDraws, feedDraws, finishDraws, sha1};
+ghost use Rattle.rules.specs.Calls.{query};
+ghost use Rattle.counts.specs.Queries.{byCount, byText};
+use numbers::DONE;
+use numbers::TOO_LONG;
+use numbers::WRONG_COUNT;
+use numbers::answer;
+use numbers::fitness;
+use numbers::growth;
+use numbers::is_allowed;
+use numbers::tested;
+use rules::Answer;
+use rules::BLOCK_BYTES;
+use rules::LARGEST;
+use rules::LENGTH_BYTES;
+use rules::LONGEST_KEY;
+use rules::LONGEST_MESSAGE;
+use width::BITS;
+
+fn choose(asked: bool, a: usize, b: usize) -> usize
+    ensures { λ r. ⌜ r ≡ choose asked a b ⌝ }
+{
+    if asked {
+        return a;
+    }
+    b
+}
+
+// By the share count alone: a number for 2, 4 and 8 shares.
+fn by_count(n: usize, two: usize, four: usize, eight: usize) -> Answer
+    ensures { λ r. ⌜ record { number = first (test 1 (allowed n) ∷ []); drawn = byCount n two four eight } ≡ r ⌝ }
+{
+    let drawn = choose(
+        n == 2,
+        two,
+        choose(n == 4, four, choose(n == LARGEST, eight, 0)),
+    );
+    answer(tested(DONE, WRONG_COUNT, is_allowed(n)), drawn)
+}
+
+// By a text too.
+fn by_text(words: Answer, fits: bool) -> Answer
+    ensures { λ r. ⌜ byText words fits ≡ r ⌝ }
+{
+    let number = tested(words.number, TOO_LONG, fits);
+    answer(number, choose(fits, words.drawn, 0))
+}
+
+// Splitting and refresh: n − 1.
+pub fn refresh_words(n: usize) -> Answer
+    ensures { λ r. ⌜ query (test 1 (allowed n) ∷ []) (refreshDraws n) ≡ r ⌝ }
+{
+    by_count(n, 1, 3, 7)
+}
+
+// Expand: n.
+pub fn expand_words(n: usize) -> Answer
+    ensures { λ r. ⌜ query (test 1 (allowed n) ∷ []) n ≡ r ⌝ }
+{
+    let counted = is_allowed(n);
+    answer(tested(DONE, WRONG_COUNT, counted), choose(counted, n, 0))
+}
+
+// AND: n(n − 1)/2.
+pub fn and_words(n: usize) -> Answer
+    ensures { λ r. ⌜ query (test 1 (allowed n) ∷ []) (andDraws n) ≡ r ⌝ }
+{
+    by_count(n, 1, 6, 28)
+}
+
+// Addition: an AND for each bit.
+pub fn add_words(n: usize) -> Answer
+    ensures { λ r. ⌜ query (test 1 (allowed n) ∷ []) (addDraws bits n) ≡ r ⌝ }
+{
+    let each = and_words(n);
+    answer(each.number, BITS * each.drawn)
+}
+
+// Arithmetic to Boolean: W(n).
+pub fn a2b_words(n: usize) -> Answer
+    ensures { λ r. ⌜ query (test 1 (allowed n) ∷ []) (toBoolDraws (addDraws bits) n) ≡ r ⌝ }
+{
+    by_count(n, 34, 264, 1432)
+}
+
+// Boolean to arithmetic: 2(n − 1) + W(n) + 16n(n − 1).
+pub fn b2a_words(n: usize) -> Answer
+    ensures { λ r. ⌜ query (test 1 (allowed n) ∷ []) (toArithDraws (addDraws bits) refreshDraws n) ≡ r ⌝ }
+{
+    by_count(n, 68, 462, 2342)
+}
+
+// Splitting a key of so many bytes: 16(n − 1).
+pub fn key_words(n: usize, key: usize) -> Answer
+    ensures { λ r. ⌜ query (test 1 (allowed n) ∷ test 4 (leb key longestKey) ∷ []) (16 * (n - 1)) ≡ r ⌝ }
+{
+    by_text(by_count(n, 16, 48, 112), key <= LONGEST_KEY)
+}
+
+// One compression: 5,220n(n − 1).
+pub fn compress_words(n: usize) -> Answer
+    ensures { λ r. ⌜ query (test 1 (allowed n) ∷ []) (compressDraws 32 n) ≡ r ⌝ }
+{
+    by_count(n, 10440, 62640, 292320)
+}
+
+// The compressions of HMAC of a message of so many bytes, where that is not too long.
+fn compressions(message: usize) -> usize
+    ensures { λ r. ⌜ (r ≤ 68) × (leb message longestMessage ≡ true → compressions (SHA1 32) message ≡ r) ⌝ }
+{
+    if LONGEST_MESSAGE < message {
+        return 0;
+    }
+    (message + LENGTH_BYTES) / BLOCK_BYTES + 4
+}
+
+// HMAC of a message of so many bytes.
+pub fn hmac_words(n: usize, message: usize) -> Answer
+    ensures { λ r. ⌜ query (test 1 (allowed n) ∷ test 4 (leb message longestMessage) ∷ []) (hmacDraws (sha1 32) n message) ≡ r ⌝ }
+{
+    let each = compress_words(n);
+    let all = answer(each.number, compressions(message) * each.drawn);
+    by_text(all, message <= LONGEST_MESSAGE)
+}
+
+// ---- streaming
+
+// Both key blocks.
+pub fn start_words(n: usize) -> Answer
+    ensures { λ r. ⌜ query (test 1 (allowed n) ∷ []) (startDraws (sha1 32) n) ≡ r ⌝ }
+{
+    let each = compress_words(n);
+    answer(each.number, 2 * each.drawn)
+}
+
+// So many compressions of an allowed share count.
+fn compressions_words(count: usize, n: usize) -> usize
+    requires { ⌜ (count ≤ 68) × (allowed n ≡ true) ⌝ }
+    ensures { λ r. ⌜ r ≡ count * compressDraws 32 n ⌝ }
+{
+    count * compress_words(n).drawn
+}
+
+// The blocks that a piece of so many bytes fills.
+pub fn feed_words(n: usize, bytes: usize, finished: u32, piece: usize) -> Answer
+    ensures { λ r. ⌜ query (test 6 (fit n bytes finished) ∷ test 4 (leb (bytes + piece) longestMessage) ∷ [])
+        (feedDraws (sha1 32) n bytes piece) ≡ r ⌝ }
+{
+    let number = growth(n, bytes, finished, piece);
+    if number != DONE {
+        return answer(number, 0);
+    }
+    let filled = (bytes % BLOCK_BYTES + piece) / BLOCK_BYTES;
+    answer(DONE, compressions_words(filled, n))
+}
+
+// The last blocks of the message, and the digest block.
+pub fn finish_words(n: usize, bytes: usize, finished: u32) -> Answer
+    ensures { λ r. ⌜ query (test 6 (fit n bytes finished) ∷ []) (finishDraws (sha1 32) n bytes) ≡ r ⌝ }
+{
+    let number = fitness(n, bytes, finished);
+    if number != DONE {
+        return answer(number, 0);
+    }
+    let last = (bytes % BLOCK_BYTES + LENGTH_BYTES) / BLOCK_BYTES + 2;
+    answer(DONE, compressions_words(last, n))
+}
