@@ -67,7 +67,7 @@ fn replace(n: usize, r: usize, u: &mut [u32])
 
 // The window u of round t becomes that of round t + 1: word t + 16, where there is one, in the place of word t.
 pub fn slide(n: usize, t: usize, u: &mut [u32])
-    requires { ⌜ (n ≤ largest) × (t < 80) × (length (now u) ≡ 16 * n) ⌝ }
+    requires { ⌜ (n ≤ largest) × (length (now u) ≡ 16 * n) ⌝ }
     ensures { λ _. ⌜ turned n ((t + 1) % 16) (now (u .exit)) ≡ slid 32 n t (turned n (t % 16) (now (u .entry))) ⌝ }
 {
     if t < ROUNDS - BLOCK_WORDS {
