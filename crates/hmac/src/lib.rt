@@ -1,13 +1,13 @@
-// Masked HMAC: the key blocks, the message, the digest block, and the tag. Each function is proved to be its rule, over the hash
-// of crate `hash`.
+// Masked HMAC: the key blocks, the message, the digest block, and the tag. Each function is proved to be its rule, over
+// the hash of crate `hash`.
 ghost use mathlib.Core.Path.{_≡_};
 ghost use mathlib.Core.List.{_++_};
-ghost use Prim.Native.Nat.{_+_, _*_, _/_, _%_, _≤_, _<_};
+ghost use Prim.Native.Nat.{_+_, _*_, _%_, _≤_, _<_};
 ghost use lib.Bits.{bitXor};
 ghost use lib.ListN.{length, getD, set, take, drop};
 ghost use Rattle.rules.specs.Numbers.{largest};
-ghost use Rattle.rules.specs.Hash.{allBytes, bytesOf, ending};
-ghost use Rattle.rules.specs.Sha1.{publics, openWords, used};
+ghost use Rattle.rules.specs.Hash.{ending};
+ghost use Rattle.rules.specs.Sha1.{publics, used};
 ghost use Rattle.rules.specs.Hmac.{marked, blocks, digestPadding, hmacShares, hmacTag};
 ghost use Rattle.rules.specs.Counts.{hmacDraws};
 ghost use Rattle.hash.specs.Hash.{hash};
@@ -21,7 +21,6 @@ use rules::BLOCK_BYTES;
 use rules::BLOCK_WORDS;
 use rules::CHAIN_WORDS;
 use rules::Chain;
-use rules::WORD_BYTES;
 use sha1::Stepped;
 
 // The byte 0x36, and the byte 0x5c, in every byte of a word.
@@ -209,41 +208,6 @@ fn hmac_shares(
     outer_step(n, key, inner.chain, block, words, inner.at)
 }
 
-// Word w of a tag becomes the bytes of v, the highest first.
-fn put_bytes(v: u32, w: usize, tag: &mut [u8])
-    requires { ⌜ 4 * w + 4 ≤ length (now tag) ⌝ }
-    ensures { λ _. ⌜ take (4 * w + 4) (now (tag .exit)) ≡ take (4 * w) (now (tag .entry)) ++ bytesOf 4 v ⌝ }
-{
-    let i = WORD_BYTES * w;
-    tag[i] = (v / 16777216 % 256) as u8;
-    tag[i + 1] = (v / 65536 % 256) as u8;
-    tag[i + 2] = (v / 256 % 256) as u8;
-    tag[i + 3] = (v % 256) as u8;
-}
-
-// Words in shares, opened: their bytes.
-fn open_bytes(n: usize, digest: &[u32], tag: &mut [u8])
-    requires { ⌜ (length (now digest) ≡ 5 * n) × (length (now tag) ≡ 20) ⌝ }
-    ensures { λ _. ⌜ now (tag .exit) ≡ allBytes 4 (openWords n 5 (now (digest .entry))) ⌝ }
-{
-    let mut w: usize = 0;
-    while w < CHAIN_WORDS {
-        let v = shares::open_xor(masked_words::word(digest, n, w));
-        put_bytes(v, w, tag);
-        w += 1;
-    }
-}
-
-// A tag in shares, opened: its bytes.
-pub fn tag_bytes(n: usize, chain: Chain, tag: &mut [u8])
-    requires { ⌜ (n ≤ largest) × (length (now tag) ≡ 20) ⌝ }
-    ensures { λ _. ⌜ now (tag .exit) ≡ allBytes 4 (openWords n 5 (used n (chain .shares))) ⌝ }
-{
-    let m = CHAIN_WORDS * n;
-    let all = chain.shares;
-    open_bytes(n, &all[0..m], tag);
-}
-
 // HMAC of a message under a key in shares, from the word at `at` on: the tag, opened, and the place after.
 pub fn hmac_tag(
     n: usize,
@@ -261,6 +225,6 @@ pub fn hmac_tag(
     let mut block0 = [0u32; BLOCK];
     let block = &mut block0[0..end];
     let last = hmac_shares(n, key, text, block, words, at);
-    tag_bytes(n, last.chain, tag);
+    tags::tag_bytes(n, last.chain, tag);
     last.at
 }

@@ -247,7 +247,7 @@ pub fn finish_at(state: State, tag: &mut [u8], words: &[u32], at: usize) -> usiz
     let block = &mut block0[0..end];
     let inner = hmac::text_step(n, state.inner, before, tail, block, words, at);
     let last = hmac::digest_step(n, inner.chain, state.outer, block, words, inner.at);
-    hmac::tag_bytes(n, last.chain, tag);
+    tags::tag_bytes(n, last.chain, tag);
     last.at
 }
 

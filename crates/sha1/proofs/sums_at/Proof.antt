@@ -26,7 +26,7 @@ loop-holds : tie.Need-loop-holds Inv-loop μ-loop
 loop-holds c = (search needs, search needs, search needs, refl, rw firsts-none)
 
 sum-at-requires : tie.Need-sum-at-requires Inv-loop μ-loop
-sum-at-requires c κs = (search needs, search word-room, search word-room, search sum-room)
+sum-at-requires c κs = (search needs, search word-room, search word-room, search (needs, sum-room))
 
 loop-again : tie.Need-loop-again Inv-loop μ-loop
 loop-again c = (search needs, search needs, search sum-after, search rest-next, search sums-next)

@@ -3,9 +3,9 @@ use borrow.Author.Needs.{needs}
 use Prim.Native.Nat.{_*_}
 use native.Mathlib.Omega.{arith}
 use lib.ListN.{length-set}
-use Rattle.hmac.proofs.Opened.{bytes-put}
-use Rattle.hmac.proofs.put_bytes.Statement.{statement}
-use Rattle.hmac.proofs.put_bytes.Tie as tie
+use Rattle.tags.proofs.Opened.{bytes-put}
+use Rattle.tags.proofs.put_bytes.Statement.{statement}
+use Rattle.tags.proofs.put_bytes.Tie as tie
 
 pub put-bytes-spec : {M : Type 1} → statement M
 put-bytes-spec =

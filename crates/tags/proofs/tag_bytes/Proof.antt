@@ -1,9 +1,9 @@
 -- the used words of the chain, opened
 use borrow.Author.Needs.{needs}
 use Rattle.sha1.proofs.Parts.{chain-room}
-use Rattle.hmac.proofs.Opened.{lent-used, tag-opened}
-use Rattle.hmac.proofs.tag_bytes.Statement.{statement}
-use Rattle.hmac.proofs.tag_bytes.Tie as tie
+use Rattle.tags.proofs.Opened.{lent-used, tag-opened}
+use Rattle.tags.proofs.tag_bytes.Statement.{statement}
+use Rattle.tags.proofs.tag_bytes.Tie as tie
 
 pub tag-bytes-spec : {M : Type 1} → statement M
 tag-bytes-spec =

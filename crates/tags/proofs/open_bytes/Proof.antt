@@ -7,9 +7,9 @@ use lib.ListN.{length}
 use Rattle.rules.specs.Hash.{allBytes}
 use Rattle.rules.specs.Sha1.{openWords}
 use Rattle.masked_words.proofs.Parts.{word-room}
-use Rattle.hmac.proofs.Opened.{Opening, tag-next, tag-end}
-use Rattle.hmac.proofs.open_bytes.Statement.{statement}
-use Rattle.hmac.proofs.open_bytes.Tie as tie
+use Rattle.tags.proofs.Opened.{Opening, tag-next, tag-end}
+use Rattle.tags.proofs.open_bytes.Statement.{statement}
+use Rattle.tags.proofs.open_bytes.Tie as tie
 
 abbrev Inv-loop : tie.InvT-loop
 Inv-loop n digest tag₀ w₀ tag w = (w ≤ 5) × (length tag ≡ 20) × (Opening n digest w tag ≡ allBytes 4 (openWords n 5 digest))
