@@ -308,7 +308,7 @@ pub extern "C" fn flamivorse_hmac_sha1_start(n: usize, key: &[u32], words: &[u32
     let need = start_words(n).drawn;
     let number = compressing(n, key.len(), need, words.len());
     if number != DONE {
-        return streamed(number, 0, stream::zeros());
+        return streamed(number, 0, states::zeros());
     }
     let made = stream::start_at(n, key, words, 0);
     let next = made.state;
@@ -320,11 +320,11 @@ pub extern "C" fn flamivorse_hmac_sha1_start(n: usize, key: &[u32], words: &[u32
 pub extern "C" fn flamivorse_hmac_sha1_feed(state: State, piece: &[u8], words: &[u32]) -> Streamed
     ensures { λ r. ⌜ feedCall (sha1 32) state (now (piece .entry)) (now (words .entry)) ≡ r ⌝ }
 {
-    let made = stream::feed(state, piece, words);
+    let made = feed::feed(state, piece, words);
     let fed = made.fed;
     let next = made.state;
     let Fed::Taken(drawn) = fed else {
-        return streamed(stream::refusal(fed), 0, next);
+        return streamed(feed::refusal(fed), 0, next);
     };
     streamed(DONE, drawn, next)
 }
@@ -347,7 +347,7 @@ pub extern "C" fn flamivorse_hmac_sha1_finish(
         return streamed(number, 0, state);
     }
     let drawn = stream::finish_at(state, tag, words, 0);
-    streamed(DONE, drawn, stream::finished(state))
+    streamed(DONE, drawn, states::finished(state))
 }
 
 // ---- how many words a call will draw

@@ -1,7 +1,8 @@
 -- the rest of the message, the digest block, and the tag opened
 use borrow.Author.Needs.{needs}
 use native.Mathlib.Omega.{arith}
-use Rattle.stream.proofs.Steps.{tail-room, last-fits, last-room, digest-room, finish-made}
+use Rattle.states.proofs.Tails.{tail-room}
+use Rattle.stream.proofs.Steps.{last-fits, last-room, digest-room, finish-made}
 use Rattle.stream.proofs.finish_at.Statement.{statement}
 use Rattle.stream.proofs.finish_at.Tie as tie
 

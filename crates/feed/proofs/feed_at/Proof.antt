@@ -1,9 +1,10 @@
 -- the full blocks compressed, and the rest in front of zeros
 use borrow.Author.Needs.{needs}
 use mathlib.Core.Path.{refl}
-use Rattle.stream.proofs.Steps.{tail-room, piece-fits, piece-room, feed-made}
-use Rattle.stream.proofs.feed_at.Statement.{statement}
-use Rattle.stream.proofs.feed_at.Tie as tie
+use Rattle.states.proofs.Tails.{tail-room}
+use Rattle.feed.proofs.Steps.{piece-fits, piece-room, feed-made}
+use Rattle.feed.proofs.feed_at.Statement.{statement}
+use Rattle.feed.proofs.feed_at.Tie as tie
 
 -- that the tail has 64 bytes is its type's
 returns : tie.Need-returns

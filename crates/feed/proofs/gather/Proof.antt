@@ -4,9 +4,9 @@ use Prim.Native.Nat.{_-_, _≤_}
 use mathlib.Core.Path.{_≡_, refl}
 use mathlib.Core.List.{_++_}
 use lib.ListN.{length, take, drop, length-set}
-use Rattle.stream.proofs.Steps.{part-next, part-end}
-use Rattle.stream.proofs.gather.Statement.{statement}
-use Rattle.stream.proofs.gather.Tie as tie
+use Rattle.feed.proofs.Steps.{part-next, part-end}
+use Rattle.feed.proofs.gather.Statement.{statement}
+use Rattle.feed.proofs.gather.Tie as tie
 
 abbrev Inv-loop : tie.InvT-loop
 Inv-loop tail piece p z₀ i₀ z i =

@@ -8,9 +8,9 @@ use Rattle.rules.specs.Sha1.{used}
 use Rattle.rules.specs.Stream.{fullBlocks}
 use Rattle.hash.specs.Hash.{hash}
 use Rattle.hmac.proofs.Steps.{block-room}
-use Rattle.stream.proofs.Steps.{full-begin, full-next, full-end}
-use Rattle.stream.proofs.full_blocks.Statement.{statement}
-use Rattle.stream.proofs.full_blocks.Tie as tie
+use Rattle.feed.proofs.Steps.{full-begin, full-next, full-end}
+use Rattle.feed.proofs.full_blocks.Statement.{statement}
+use Rattle.feed.proofs.full_blocks.Tie as tie
 
 abbrev Inv-loop : tie.InvT-loop
 Inv-loop n tail piece words at end block₀ count c₀ p₀ j₀ block c p j =

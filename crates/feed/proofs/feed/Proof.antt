@@ -1,8 +1,8 @@
 -- refused, with the state as it was given; or the rule
 use borrow.Author.Needs.{needs}
 use Rattle.rules.proofs.StreamCalls.{feed-ready, feed-refused, feed-done}
-use Rattle.stream.proofs.feed.Statement.{statement}
-use Rattle.stream.proofs.feed.Tie as tie
+use Rattle.feed.proofs.feed.Statement.{statement}
+use Rattle.feed.proofs.feed.Tie as tie
 
 feed-at-requires : tie.Need-feed-at-requires
 feed-at-requires c κs =

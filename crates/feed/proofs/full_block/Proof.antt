@@ -1,8 +1,8 @@
 -- the bytes of the block, gathered, are a text of one block
 use borrow.Author.Needs.{needs}
-use Rattle.stream.proofs.Steps.{full-made}
-use Rattle.stream.proofs.full_block.Statement.{statement}
-use Rattle.stream.proofs.full_block.Tie as tie
+use Rattle.feed.proofs.Steps.{full-made}
+use Rattle.feed.proofs.full_block.Statement.{statement}
+use Rattle.feed.proofs.full_block.Tie as tie
 
 pub full-block-spec : {M : Type 1} → statement M
 full-block-spec =

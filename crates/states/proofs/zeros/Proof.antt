@@ -2,8 +2,8 @@
 use borrow.Author.Needs.{needs}
 use Rattle.rules.specs.Sha1.{used}
 use Rattle.rules.specs.Stream.{state}
-use Rattle.stream.proofs.zeros.Statement.{statement}
-use Rattle.stream.proofs.zeros.Tie as tie
+use Rattle.states.proofs.zeros.Statement.{statement}
+use Rattle.states.proofs.zeros.Tie as tie
 
 returns : tie.Need-returns
 unfolding state used

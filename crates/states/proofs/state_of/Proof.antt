@@ -1,7 +1,7 @@
 -- both chains with 0 in their unused words
 use borrow.Author.Needs.{needs}
-use Rattle.stream.proofs.state_of.Statement.{statement}
-use Rattle.stream.proofs.state_of.Tie as tie
+use Rattle.states.proofs.state_of.Statement.{statement}
+use Rattle.states.proofs.state_of.Tie as tie
 
 pub state-of-spec : {M : Type 1} → statement M
 state-of-spec = tie.close (tie.spec (λ c κs. search needs) (λ c κs. search needs)
