@@ -176,7 +176,7 @@ pub copy-made : (k : ℕ) (add : Adder) (n : ℕ) (h block u ws : List ℕ) (at 
     → compress k add n h u ws at ≡ o → compress k add n h block ws at ≡ o
 copy-made k add n h block u ws at o e g = rw e at g
 
--- ---- what callers lend of a record, and zeros of which some are
+-- ---- for the crates above: the used words lent, and zeros behind the first n of them
 pub used-lent : (n : ℕ) (chain : List ℕ) → take (5 * n - 0) chain ≡ used n chain
 unfolding used
 used-lent n chain = rw (sub-zero (5 * n))
