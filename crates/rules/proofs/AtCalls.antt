@@ -10,7 +10,7 @@ use lib.Bits.{bitXor, bitAnd, xor-comm}
 use lib.Dec.{lit<, lit≤}
 use lib.ListN.{length, take, drop, replicate, length-drop, take-append-drop}
 use lib.Pow.{pow-pos}
-use lib.Seq.{length-take-le, take-append-le, drop-append-le}
+use lib.Seq.{take-append-le, drop-append-le}
 use borrow.Author.Tests.{eq-eqb, le-leb}
 use Rattle.words.proofs.Words.{xor-back}
 use Rattle.rules.specs.declared.Chain.{Chain}
@@ -26,6 +26,7 @@ use Rattle.rules.specs.Hmac.{splitKey, hmacTag}
 use Rattle.rules.specs.Counts.{andDraws, addDraws, refreshDraws, toBoolDraws, toArithDraws, sha1}
 use Rattle.rules.specs.Calls.{call, compressCall, a2bCall, b2aCall, hmacCall}
 use Rattle.rules.specs.Outcome.{Allowed, None, Given, Settles, Makes}
+use Rattle.rules.proofs.Loops.{length-used}
 use Rattle.rules.proofs.Rule.{said, counted}
 use Rattle.rules.proofs.Openings.{opened-lt}
 use Rattle.rules.proofs.Pairs.{and-rule}
@@ -155,10 +156,6 @@ open-front n (suc m) s t h =
     (ap (λ (u : List ℕ). opened (take n s) ∷ u)
     (open-front n m (drop n s) t (length-drop n s ∙ omega (arith, suc-mul m n))))
 
-length-used : (n : ℕ) → Allowed n → (s : List ℕ) → length s ≡ 40 → length (used n s) ≡ 5 * n
-unfolding used
-length-used n count s whole = length-take-le (5 * n) s (omega (arith, within n (ok n count) .1))
-
 open-used : (n : ℕ) (s : List ℕ) → length (used n s) ≡ 5 * n → openWords n 5 (used n s) ≡ openWords n 5 s
 unfolding used
 open-used n s h =
@@ -181,7 +178,7 @@ module _ (n : ℕ) (chain : Chain) (block : List ℕ) (whole : length (chain .sh
   compress-law : Allowed n → length block ≡ 16 * n → Rule d (λ z. length z ≡ 5 * n) rule
   compress-law c e =
       counted (compress-sized (sha1 32) n (some n c) (sha1-size n (some n c)) (used n (chain .shares)) block
-      (length-used n c (chain .shares) whole) e) (compress-count n)
+      (length-used n (chain .shares) (within n (ok n c) .1) whole) e) (compress-count n)
 
   module _ (ws : List ℕ) where
     abbrev o : Compressed
@@ -236,7 +233,7 @@ module _ (n : ℕ) (chain : Chain) (block : List ℕ) (whole : length (chain .sh
           let c = asks-for .0 in
           let made = rule ws 0 .0 in
           let h = used n (chain .shares) in
-          let size = length-used n c (chain .shares) whole in
+          let size = length-used n (chain .shares) (within n (ok n c) .1) whole in
           rw accepted
           (open-front n 5 made (replicate (40 - 5 * n) 0) (law .makes ws 0)
           ∙ compress-opens 32 n (some n c) (lit≤ tt) (addDraws 32) (add 32) adds h block ws 0 size (asks-for .1)

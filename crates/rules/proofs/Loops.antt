@@ -12,7 +12,9 @@ use lib.Seq.{drop-cons, take-all, length-take-le}
 use Rattle.words.proofs.Stores.{take-sets, filled-next, filled-end, set-last}
 use Rattle.words.specs.Word.{minus}
 use Rattle.rules.specs.Supply.{next, opened, split}
+use Rattle.rules.specs.Numbers.{largest}
 use Rattle.rules.specs.Shares.{Step, each, pass, along, order, column, cross, and, doubleXor, carries, add, expand}
+use Rattle.rules.specs.Sha1.{used}
 use Rattle.rules.specs.Counts.{andDraws, addDraws}
 use Rattle.rules.proofs.Openings.{length-each, each-at}
 use Rattle.rules.proofs.Rule.{next-rule}
@@ -269,3 +271,8 @@ split-made value at p mask s ws m h e f =
 -- ---- the array of a chain record that is handed over, as the checker knows it
 pub chain-length : (a : List ℕ) → length (map (λ (v : ℕ). v) a) ≡ 40 → length a ≡ 40
 chain-length a e = sym (length-map a (λ (v : ℕ). v)) ∙ e
+
+-- of its 40 words 5n are used
+pub length-used : (n : ℕ) (chain : List ℕ) → n ≤ largest → length chain ≡ 40 → length (used n chain) ≡ 5 * n
+unfolding used
+length-used n chain few whole = length-take-le (5 * n) chain (omega arith)

@@ -8,7 +8,6 @@ use native.Mathlib.Nat.{zero-add}
 use native.Mathlib.Omega.{arith}
 use lib.Dec.{eqb, leb}
 use lib.ListN.{length, getD}
-use lib.Seq.{length-take-le}
 use mir.Syntax.{w32}
 use mir.Val.{Fits}
 use borrow.Author.Tests.{eqb-true, leb-true}
@@ -29,7 +28,7 @@ use Rattle.rules.proofs.Addition.{add-loop-rule, expand-rule, split-rul
 use Rattle.rules.proofs.Conversion.{add-adds, refresh-refreshes, toBool-rule, toArith-rule}
 use Rattle.rules.proofs.Sizes.{sha1-size, compress-sized, hmacTag-sized, splitKey-sized}
 use Rattle.rules.proofs.Tags.{sha1-proper}
-use Rattle.rules.proofs.Loops.{chain-length}
+use Rattle.rules.proofs.Loops.{chain-length, length-used}
 use Rattle.rules.proofs.Allowed.{within, power-of}
 use Rattle.rules.proofs.Calls.{passed, holds, same-test, settled-refused, tells}
 
@@ -238,8 +237,7 @@ module _ (n number : ℕ) (chain : Chain) (block ws : List ℕ) (q : Answer)
   made = compress 32 (add 32) n (used n (chain .shares)) block ws 0
 
   full : n ≤ largest → length (used n (chain .shares)) ≡ 5 * n
-  unfolding used
-  full few = length-take-le (5 * n) (chain .shares) (omega (arith, chain-length (chain .shares) good))
+  full few = length-used n (chain .shares) few (chain-length (chain .shares) good)
 
   abbrev before : List Test
   before = test 1 (allowed n) ∷ test 2 (eqb (length block) (16 * n)) ∷ []

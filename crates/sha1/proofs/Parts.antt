@@ -14,7 +14,7 @@ use Rattle.rules.specs.Counts.{andDraws, roundsAnds, compressAnds, compressDraw
 use Rattle.rules.specs.declared.Chain.{Chain}
 use Rattle.rules.specs.Stream.{filled}
 use Rattle.rules.specs.Sha1.{word, rounds, schedule, sums, compress, used, chainOf}
-use Rattle.rules.proofs.Loops.{Run, times-suc, chain-length}
+use Rattle.rules.proofs.Loops.{Run, times-suc, chain-length, length-used}
 use Rattle.masked_words.specs.Words.{firsts}
 use Rattle.masked_words.proofs.Parts.{firsts-all}
 
@@ -126,9 +126,8 @@ module _ (chain : List ℕ) (whole : length (map (λ (v : ℕ). v) chain) ≡ 5 
   pub chain-room : (n : ℕ) → n ≤ largest → 5 * n ≤ length chain
   chain-room n h = omega (arith, chain-length chain whole)
 
-  length-used : (n : ℕ) → n ≤ largest → length (used n chain) ≡ 5 * n
-  unfolding used
-  length-used n h = length-take-le (5 * n) chain (chain-room n h)
+  used-size : (n : ℕ) → n ≤ largest → length (used n chain) ≡ 5 * n
+  used-size n few = length-used n chain few (chain-length chain whole)
 
   -- zeros behind the used words
   pub cleared-made : (n : ℕ) (rest : List ℕ) → n ≤ largest
@@ -142,7 +141,7 @@ module _ (chain : List ℕ) (whole : length (map (λ (v : ℕ). v) chain) ≡ 5 
       let behind = drop (5 * n) chain in
       let size : length behind ≡ m = length-drop (5 * n) chain ∙ omega (arith, chain-length chain whole) in
       let none : drop m behind ≡ [] = drop-of-length-le behind {i = m} (omega arith) in
-      rw (none, append-nil rest, e, length-take-le m behind (omega arith), length-used n few)
+      rw (none, append-nil rest, e, length-take-le m behind (omega arith), used-size n few)
 
   -- the used words, lent; new ones in their place
   module _ (n : ℕ) (few : n ≤ largest) (old : Chain) (is : old ≡ record { shares = filled 40 (used n chain) })
@@ -151,7 +150,7 @@ module _ (chain : List ℕ) (whole : length (map (λ (v : ℕ). v) chain) ≡ 5 
     all = old .shares
 
     zeros : all ≡ used n chain ++ replicate (40 - 5 * n) 0
-    zeros = ap (λ (c : Chain). c .shares) is ∙ ap (λ m. used n chain ++ replicate (40 - m) 0) (length-used n few)
+    zeros = ap (λ (c : Chain). c .shares) is ∙ ap (λ m. used n chain ++ replicate (40 - m) 0) (used-size n few)
 
     record-used : used n (z ++ drop (5 * n - 0) all) ≡ z
     unfolding used
@@ -161,14 +160,14 @@ module _ (chain : List ℕ) (whole : length (map (λ (v : ℕ). v) chain) ≡ 5 
     unfolding chainOf
     record-chain =
         rw (record-used, sub-zero (5 * n), zeros)
-        (ap (λ y. z ++ y) (drop-at (used n chain) _ (5 * n) (length-used n few)))
+        (ap (λ y. z ++ y) (drop-at (used n chain) _ (5 * n) (used-size n few)))
 
     pub record-made : (k : ℕ) (add : Adder) (block ws : List ℕ) (at p : ℕ)
         → compress k add n (take (5 * n - 0) all) block ws at ≡ (z, p)
         → compress k add n (used n chain) block ws at ≡ (used n (z ++ drop (5 * n - 0) all), p)
     record-made k add block ws at p e =
         let lent : take (5 * n - 0) all ≡ used n chain =
-        rw (sub-zero (5 * n), zeros) (take-at (used n chain) _ (5 * n) (length-used n few)) in
+        rw (sub-zero (5 * n), zeros) (take-at (used n chain) _ (5 * n) (used-size n few)) in
         rw (record-used, ← lent) e
 
 -- ---- compress_copy: a copy of the block

@@ -3,15 +3,16 @@ use Prim.Native.Nat.{ℕ, suc, _+_, _-_, _*_, _/_, _%_, _≤_, _<_}
 use mathlib.Core.Path.{_≡_, sym, ap, _∙_}
 use mathlib.Core.List.{List, [], _∷_, _++_, map, append-nil, append-assoc}
 use native.Mathlib.Omega.{arith}
-use native.Mathlib.Nat.{add-mul, sub-zero}
+use native.Mathlib.Nat.{add-mul}
 use lib.ListN.{length, set, take, drop}
-use lib.Seq.{take-all, drop-drop, length-take-le}
+use lib.Seq.{take-all, drop-drop}
 use Rattle.words.proofs.Stores.{take-sets}
 use Rattle.rules.specs.Numbers.{largest}
 use Rattle.rules.specs.Supply.{opened}
 use Rattle.rules.specs.Hash.{bytesOf, allBytes}
 use Rattle.rules.specs.Sha1.{word, openWords, used}
-use Rattle.sha1.proofs.Parts.{used-lent, chain-room}
+use Rattle.rules.proofs.Loops.{chain-length, length-used}
+use Rattle.sha1.proofs.Parts.{used-lent}
 
 -- a word as bytes
 pub bytes-put : (tag : List ℕ) (v i : ℕ) → i + 4 ≤ length tag
@@ -53,7 +54,7 @@ module _ (n : ℕ) (s : List ℕ) where
 -- the used words of a chain, lent and opened
 pub lent-used : (n : ℕ) (chain : List ℕ) → length (map (λ (v : ℕ). v) chain) ≡ 5 * largest → n ≤ largest
     → length (take (5 * n - 0) chain) ≡ 5 * n
-lent-used n chain e h = rw (sub-zero (5 * n)) (length-take-le (5 * n) chain (chain-room chain e n h))
+lent-used n chain e h = ap length (used-lent n chain) ∙ length-used n chain h (chain-length chain e)
 
 pub tag-opened : (n : ℕ) (chain tag : List ℕ) → tag ≡ allBytes 4 (openWords n 5 (take (5 * n - 0) chain))
     → tag ≡ allBytes 4 (openWords n 5 (used n chain))
