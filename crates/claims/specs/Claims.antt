@@ -25,7 +25,7 @@ use Rattle.rules.specs.Hash.{hmac}
 use Rattle.rules.specs.Standard.{SHA1, ROTL, complement, Ch, Parity, Maj, f, schedule, round, rounds, sums, compress}
 use Rattle.rules.specs.Sha1.{openWords, used, compress as compressShares}
 use Rattle.rules.specs.Hmac.{splitKey, hmacTag}
-use Rattle.rules.specs.Counts.{addDraws, toBoolDraws, compressDraws, sha1}
+use Rattle.rules.specs.Counts.{addDraws, toBoolDraws, compressDraws, keyDraws, sha1}
 use Rattle.rules.specs.Calls.{call, b2aTwo, a2bTwo, b2aRecordCall, a2bRecordCall, splitCall, openXorCall, openSumCall}
 use Rattle.rules.specs.Calls.{refreshCall, expandCall, andCall, addCall, a2bCall, b2aCall, splitKeyCall, compressCall, hmacCall}
 use Rattle.rules.specs.Stream.{ReadAlike, state, start, feed, finish, startCall, feedCall, finishCall, closed}
@@ -34,11 +34,11 @@ use Rattle.rules.specs.Outcome.{Allowed, Fit, Whole, None, Asks, Done, Given, S
 use Rattle.rules.proofs.Outcomes.{untested, says-eq, says-le, says-two, exactly, follows, makes, makes-as}
 use Rattle.rules.proofs.Outcomes.{only, done-only, open-settles, record-settles, record-independent}
 use Rattle.rules.proofs.AtCalls.{some, add-count, expand-law, and-law, add-law, toBool-law, toArith-law, toArith-sums}
-use Rattle.rules.proofs.AtCalls.{there-back, back-there, splitKey-law, hmacTag-law, tags, xor-off}
+use Rattle.rules.proofs.AtCalls.{there-back, back-there, short-count, long-count, splitKey-law, split-opens, hmacTag-law, tags, xor-off}
 use Rattle.rules.proofs.AtCalls.{compress-outcome, compress-drawn, compress-past, compress-opens-to}
 use Rattle.rules.proofs.AtStreams.{start-outcome, start-count, start-past, feed-outcome, feed-count, feed-past}
 use Rattle.rules.proofs.AtStreams.{finish-outcome, finish-count, finish-past, sha1-cuts, sha1-words, streamed-tag}
-use Rattle.rules.proofs.AtStreams.{one-call-tag}
+use Rattle.rules.proofs.AtStreams.{one-call-tag, sha1-tag}
 use Rattle.rules.proofs.Openings.{opened-lt}
 use Rattle.rules.proofs.Pairs.{refresh-rule}
 use Rattle.rules.proofs.Addition.{add-rule, split-rule}
@@ -63,6 +63,17 @@ W-one = draws-one (addDraws 32) 1 (lit≤ tt)
 pub W-more : (n : ℕ) → 1 < n → W n ≡ 2 * W (n / 2) + n + 16 * (n * (n - 1))
 W-more n h = draws-more (addDraws 32) n h ∙ ap (λ d. 2 * W (n / 2) + n + d) (add-count n)
 
+-- D(n, l), the words of splitting a key of l bytes: 16(n−1) up to 64 bytes; over that ceil(l/4)(n−1), and then those of
+-- floor((l + 8)/64) + 1 compressions.
+abbrev pub D : ℕ → ℕ → ℕ
+D n l = keyDraws (sha1 32) n l
+
+pub D-short : (n l : ℕ) → l ≤ 64 → D n l ≡ 16 * (n - 1)
+D-short = short-count
+
+pub D-long : (n l : ℕ) → 64 < l → D n l ≡ (l + 3) / 4 * (n - 1) + ((l + 8) / 64 + 1) * (5220 * (n * (n - 1)))
+D-long = long-count
+
 -- The calls on n shares, each with what it asks of its input, how long its output is, what it asks of its text, how many
 -- words it draws and its rule. Refused, it reports 0 words drawn and the output stays as it came (`refused-leaves`).
 -- Accepted, output and count are the rule's, from place 0 (`accepted-is`), the count in closed form (`count`), and words
@@ -81,7 +92,7 @@ pub record CallsFollow (n : ℕ) : Type 0 where
       → Follows n (length x ≡ n) n None (2 * (n - 1) + W n + 16 * (n * (n - 1)))
       (toArith 32 (add 32) refresh x) (b2aCall 32 n x)
   pub split-key-follows : (key : List ℕ)
-      → Follows n None (16 * n) (length key ≤ 64) (16 * (n - 1)) (splitKey (SHA1 32) n key) (splitKeyCall n key)
+      → Follows n None (16 * n) (length key ≤ 1024) (D n (length key)) (splitKey (sha1 32) n key) (splitKeyCall 32 n key)
   pub hmac-follows : (key text : List ℕ)
       → Follows n (length key ≡ 16 * n) 20 (length text ≤ 4096) (((length text + 8) / 64 + 4) * (5220 * (n * (n - 1))))
       (hmacTag (sha1 32) n key text) (hmacCall 32 n key text)
@@ -97,7 +108,7 @@ calls-follow n =
       add-follows = λ x y. follows (says-two n x y) untested (λ c i t. add-law n x y i);
       a2b-follows = λ a u. follows (says-eq (length a) n) untested (λ c i t. toBool-law n c a i u);
       b2a-follows = λ x u. follows (says-eq (length x) n) untested (λ c i t. toArith-law n c x i u);
-      split-key-follows = λ key. follows untested (says-le (length key) 64) (λ c i t. splitKey-law n c key);
+      split-key-follows = λ key. follows untested (says-le (length key) 1024) (λ c i t. splitKey-law n c key);
       hmac-follows = λ key text.
           follows (says-eq (length key) (16 * n)) (says-le (length text) 4096) (λ c i t. hmacTag-law n c key text i);
     }
@@ -192,11 +203,23 @@ pub back-and-there : (n : ℕ) (a : List ℕ) → Words 32 a
     → Makes 32 (a2bCall 32 n a) (λ x. Makes 32 (b2aCall 32 n x) (λ b. total b % 2 ^ 32 ≡ total a % 2 ^ 32))
 back-and-there n a u = makes (calls-follow n .a2b-follows a u) (λ c i t. back-there n c a i u)
 
--- Splitting a key and tagging with its shares gives the bytes of RFC 2104 over FIPS 180-4, for all keys, texts and words.
+-- Splitting a key and tagging with its shares gives the bytes of RFC 2104 over FIPS 180-4, for all keys, of up to 1,024
+-- bytes, texts and words: in one call, and streamed, from any start, feeds and finish that are accepted.
 pub tag-is-rfc2104 : (n : ℕ) (key text : List ℕ) → Words 8 key → Words 8 text
-    → Makes 32 (splitKeyCall n key)
+    → Makes 32 (splitKeyCall 32 n key)
     (λ shares. Makes 32 (hmacCall 32 n shares text) (λ tag. tag ≡ hmac (SHA1 32) key text))
-tag-is-rfc2104 n key text u v = makes (calls-follow n .split-key-follows key) (λ c i t ws w. tags n c key text u v t ws)
+tag-is-rfc2104 n key text u v = makes (calls-follow n .split-key-follows key) (λ c i t ws w. tags n c key text u v ws)
+
+pub streamed-tag-of-split-key : (n : ℕ) (key : List ℕ) → Words 8 key
+    → Makes 32 (splitKeyCall 32 n key)
+    (λ shares. (ws : List ℕ) (fs : Feeds) (came vs : List ℕ) → (let s = startCall (sha1 32) n shares ws in
+    let o = finishCall (sha1 32) (after (sha1 32) (s .state) fs) came vs in
+    s .number ≡ 0 → Words 8 (message fs) → Accepted (sha1 32) (s .state) fs → o .0 .number ≡ 0
+    → o .1 ≡ hmac (SHA1 32) key (message fs)))
+streamed-tag-of-split-key n key u =
+    makes (calls-follow n .split-key-follows key)
+    (λ c i t vs w ws fs came us ok bytes taken done.
+    sha1-tag n _ ws ok key u (split-opens n c key u vs) fs bytes taken came us done)
 
 -- The working two-share forms keep the secret, and are what the recording forms end in, whatever the fresh word is.
 pub b2a-two-keeps : (x′ r : ℕ) → x′ < 2 ^ 32 → r < 2 ^ 32 → (b2aTwo 32 x′ r + r) % 2 ^ 32 ≡ bitXor x′ r

@@ -7,8 +7,7 @@ use native.Mathlib.Nat.{mul-zero, mul-le-mul}
 use native.Mathlib.Omega.{arith}
 use lib.Dec.{eqb}
 use Rattle.rules.specs.declared.Answer.{Answer}
-use Rattle.rules.specs.Numbers.{either, allowed, Test, test, first, settled, told}
-use Rattle.rules.specs.Convert.{choose}
+use Rattle.rules.specs.Numbers.{choose, either, allowed, Test, test, first, settled, told}
 use Rattle.rules.specs.Counts.{compressDraws}
 use Rattle.rules.specs.Calls.{query}
 use Rattle.rules.proofs.Calls.{settled-refused, tells}

@@ -3,8 +3,7 @@ use Prim.Native.Nat.{ℕ}
 use lib.Dec.{eqb}
 use mathlib.Core.Bool.{Bool}
 use Rattle.rules.specs.declared.Answer.{Answer}
-use Rattle.rules.specs.Numbers.{largest, test}
-use Rattle.rules.specs.Convert.{choose}
+use Rattle.rules.specs.Numbers.{largest, choose, test}
 use Rattle.numbers.specs.Tests.{after}
 
 -- a number for 2, 4 and 8 shares

@@ -11,10 +11,10 @@ use Rattle.words.proofs.Stores.{filled-next, filled-end}
 use Rattle.rules.specs.declared.Chain.{Chain}
 use Rattle.rules.specs.declared.State.{State}
 use Rattle.rules.specs.Numbers.{longestMessage}
-use Rattle.rules.specs.Hash.{wordsOf, ending}
+use Rattle.rules.specs.Hash.{wordsOf, ending, filled}
 use Rattle.rules.specs.Standard.{SHA1}
 use Rattle.rules.specs.Sha1.{publics, used}
-use Rattle.rules.specs.Stream.{filled, state, fullBlocks, feed}
+use Rattle.rules.specs.Stream.{state, fullBlocks, feed}
 use Rattle.rules.proofs.Loops.{Run}
 use Rattle.rules.proofs.Bytes.{length-words, words-front}
 use Rattle.rules.proofs.Hashes.{ending-front}

@@ -11,7 +11,7 @@ use lib.Dec.{lit<, lit≤}
 use lib.ListN.{length, take, drop, replicate, length-drop, take-append-drop}
 use lib.Pow.{pow-pos}
 use lib.Seq.{take-append-le, drop-append-le}
-use borrow.Author.Tests.{eq-eqb, le-leb}
+use borrow.Author.Tests.{eq-eqb, le-leb, lt-leb}
 use Rattle.words.proofs.Words.{xor-back}
 use Rattle.rules.specs.declared.Chain.{Chain}
 use Rattle.rules.specs.declared.Compressed.{Compressed}
@@ -19,11 +19,11 @@ use Rattle.rules.specs.Supply.{Draw, Rule, Shares, Words, opened, total}
 use Rattle.rules.specs.Numbers.{allowed, test, first}
 use Rattle.rules.specs.Shares.{refresh, expand, and, add}
 use Rattle.rules.specs.Convert.{toBool, toArith}
-use Rattle.rules.specs.Hash.{hmac}
+use Rattle.rules.specs.Hash.{wordsOf, keyBlock, hmac}
 use Rattle.rules.specs.Standard.{SHA1, compress as compressOf}
 use Rattle.rules.specs.Sha1.{openWords, compress, used, chainOf}
 use Rattle.rules.specs.Hmac.{splitKey, hmacTag}
-use Rattle.rules.specs.Counts.{andDraws, addDraws, refreshDraws, toBoolDraws, toArithDraws, sha1}
+use Rattle.rules.specs.Counts.{andDraws, addDraws, refreshDraws, toBoolDraws, toArithDraws, keyDraws, sha1}
 use Rattle.rules.specs.Calls.{call, compressCall, a2bCall, b2aCall, hmacCall}
 use Rattle.rules.specs.Outcome.{Allowed, None, Given, Settles, Makes}
 use Rattle.rules.proofs.Loops.{length-used}
@@ -52,6 +52,14 @@ pub add-count : (n : ℕ) → addDraws 32 n ≡ 16 * (n * (n - 1))
 unfolding andDraws
 add-count zero = refl
 add-count (suc m) = let e : suc m - 1 ≡ m = omega arith in rw e (omega (arith, andDraws-twice m))
+
+-- a key of l bytes, split and, where it is over 64, hashed
+module _ (n l : ℕ) where
+  pub short-count : l ≤ 64 → keyDraws (sha1 32) n l ≡ 16 * (n - 1)
+  short-count h = rw (le-leb l 64 h)
+
+  pub long-count : 64 < l → keyDraws (sha1 32) n l ≡ (l + 3) / 4 * (n - 1) + ((l + 8) / 64 + 1) * (5220 * (n * (n - 1)))
+  long-count h = rw (lt-leb l 64 h) (ap (λ d. (l + 3) / 4 * (n - 1) + ((l + 8) / 64 + 1) * d) (compress-count n))
 
 -- ---- the rules that draw a word for each share or pair
 pub expand-law : (n : ℕ) (x : List ℕ) → length x ≡ n → Rule n (Shares (2 * n) (opened x)) (expand x)
@@ -125,8 +133,9 @@ module _ (n : ℕ) (count : Allowed n) where
   sha1-keeps : Keeps (sha1 32) n (λ v. v < 2 ^ 32) (Masks 32 n)
   sha1-keeps = sha1-opens 32 n some (lit≤ tt) (addDraws 32) (add 32) adds 32 refl
 
-  pub splitKey-law : (key : List ℕ) → Rule (16 * (n - 1)) (λ z. length z ≡ 16 * n) (splitKey (SHA1 32) n key)
-  splitKey-law key = splitKey-sized (SHA1 32) n key some
+  pub splitKey-law : (key : List ℕ)
+      → Rule (keyDraws (sha1 32) n (length key)) (λ z. length z ≡ 16 * n) (splitKey (sha1 32) n key)
+  splitKey-law = splitKey-sized (sha1 32) n some (sha1-size n some) (sha1-proper 32)
 
   pub hmacTag-law : (key text : List ℕ) → length key ≡ 16 * n
       → Rule (((length text + 8) / 64 + 4) * (5220 * (n * (n - 1)))) (λ t. length t ≡ 20) (hmacTag (sha1 32) n key text)
@@ -134,16 +143,21 @@ module _ (n : ℕ) (count : Allowed n) where
       counted (hmacTag-sized (sha1 32) n some (sha1-size n some) (sha1-proper 32) key text size)
       (ap (λ d. ((length text + 8) / 64 + 4) * d) (compress-count n))
 
-  pub tags : (key text : List ℕ) → Words 8 key → Words 8 text → length key ≤ 64 → (ws : List ℕ)
-      → Makes 32 (hmacCall 32 n (splitKey (SHA1 32) n key ws 0 .0) text) (λ tag. tag ≡ hmac (SHA1 32) key text)
+  -- its shares open to the key block
+  pub split-opens : (key : List ℕ) → Words 8 key → (ws : List ℕ)
+      → openWords n 16 (splitKey (sha1 32) n key ws 0 .0) ≡ wordsOf 4 16 (keyBlock (SHA1 32) key)
+  split-opens key keys ws = splitKey-opens (sha1 32) n some (sha1-proper 32) sha1-chains sha1-keeps key ws 0 keys
+
+  pub tags : (key text : List ℕ) → Words 8 key → Words 8 text → (ws : List ℕ)
+      → Makes 32 (hmacCall 32 n (splitKey (sha1 32) n key ws 0 .0) text) (λ tag. tag ≡ hmac (SHA1 32) key text)
   unfolding call
-  tags key text keys texts short ws =
-      let shares = splitKey (SHA1 32) n key ws 0 .0 in
+  tags key text keys texts ws =
+      let shares = splitKey (sha1 32) n key ws 0 .0 in
       record {
         made = λ came vs w h.
             rw h
-            (hmacTag-is (sha1 32) n some (sha1-proper 32) sha1-chains sha1-keeps key text shares vs 0 short keys texts
-            (splitKey-law key .makes ws 0) (splitKey-opens (SHA1 32) n key ws 0 some));
+            (hmacTag-is (sha1 32) n some (sha1-proper 32) sha1-chains sha1-keeps key text shares vs 0 keys texts
+            (splitKey-law key .makes ws 0) (split-opens key keys ws));
       }
 
 -- ---- several words, opened

@@ -142,16 +142,16 @@ module _ (M : Masked) (proper : Proper (M .standard)) (chains : Chains (M .stand
   some-shares : 0 < n
   some-shares = within n (start-asked M n shares ws ok .0) .0
 
-  pub run-tag : (key : List ℕ) → length key ≤ blockBytes H → Words 8 key
+  pub run-tag : (key : List ℕ) → Words 8 key
       → openWords n 16 shares ≡ wordsOf (H .wordBytes) 16 (keyBlock H key)
       → (fs : Feeds) → Words 8 (message fs) → (let s = startCall M n shares ws .state in
       Accepted M s fs → (came vs : List ℕ) → (let o = finishCall M (after M s fs) came vs in
       o .0 .number ≡ 0 → o .1 ≡ hmac H key (message fs)))
-  run-tag key short keys shared fs bytes taken came vs done =
+  run-tag key keys shared fs bytes taken came vs done =
       let keeps = opens n some-shares in
       let KEY = wordsOf (H .wordBytes) 16 (keyBlock H key) in
       let small : Words k KEY = bytes-are-words (H .wordBytes) 16 (keyBlock H key)
-      (key-bytes H proper key [] short keys) in
+      (key-bytes H proper chains key keys) in
       let good : Goods (Masks k n) 16 shares KEY =
       rw shared at (masks k n 16 shares (start-asked M n shares ws ok .1) (rw shared small)) in
       let g = start-rule keeps proper some-shares good .makes ws 0 in
@@ -166,7 +166,7 @@ module _ (M : Masked) (proper : Proper (M .standard)) (chains : Chains (M .stand
       let tag = tag-rule keeps proper sixty-four KEY m _ end some-shares (ending-words H proper _ _ rest) .makes vs 0 in
       finished-tag M _ came vs done ∙ tag .is
       ∙ ap (allBytes (H .wordBytes)) (goods-open (λ x X g. (g .0, g .1)) (tag .good))
-      ∙ hmacOf-is H proper key m short keys chains
+      ∙ hmacOf-is H proper chains key keys m
 
 -- ==== SHA-1: runs, at any width and, opened, at 32 bits
 sizes-of : (k : ℕ) → 0 < k → (n : ℕ) → 0 < n → Keeps (sha1 k) n (λ v. Unit {0}) (Sized n)
@@ -189,8 +189,8 @@ module _ (k : ℕ) (h : 0 < k) (n : ℕ) (key ws : List ℕ) (ok : startCall (sh
 sha1-opening : (n : ℕ) → 0 < n → Keeps (sha1 32) n (λ v. v < 2 ^ 32) (Masks 32 n)
 sha1-opening n some = sha1-opens 32 n some (lit≤ tt) (addDraws 32) (add 32) (add-adds 32 (lit< tt)) 32 refl
 
-sha1-tag : (n : ℕ) (shares ws : List ℕ) → startCall (sha1 32) n shares ws .number ≡ 0
-    → (key : List ℕ) → length key ≤ 64 → Words 8 key → openWords n 16 shares ≡ wordsOf 4 16 (keyBlock (SHA1 32) key)
+pub sha1-tag : (n : ℕ) (shares ws : List ℕ) → startCall (sha1 32) n shares ws .number ≡ 0
+    → (key : List ℕ) → Words 8 key → openWords n 16 shares ≡ wordsOf 4 16 (keyBlock (SHA1 32) key)
     → (fs : Feeds) → Words 8 (message fs) → (let s = startCall (sha1 32) n shares ws .state in
     Accepted (sha1 32) s fs → (came vs : List ℕ) → (let o = finishCall (sha1 32) (after (sha1 32) s fs) came vs in
     o .0 .number ≡ 0 → o .1 ≡ hmac (SHA1 32) key (message fs)))
@@ -206,15 +206,12 @@ key-opens n shares words =
     let many : length w ≡ 16 = length-open n 16 shares in
     let size : length key ≡ 64 = length-allBytes 4 w ∙ ap (λ t. t * 4) many in
     let back = rw many at (words-back 4 w (words-opened 32 n 16 shares words)) in
-    (size, all-bytes-are-bytes 4 w, rw size (sym (ap (wordsOf 4 16) (append-nil key) ∙ back)))
+    (size, all-bytes-are-bytes 4 w, rw (size, size) (sym (ap (wordsOf 4 16) (append-nil key) ∙ back)))
 
 -- the one-call form's tag of the same
 module _ (n : ℕ) (key text : List ℕ) (words : Words 32 key) (bytes : Words 8 text) where
   abbrev K : List ℕ
   K = allBytes 4 (openWords n 16 key)
-
-  short-key : length K ≤ 64
-  short-key = omega (arith, key-opens n key words .0)
 
   pub streamed-tag : (ws : List ℕ) → startCall (sha1 32) n key ws .number ≡ 0 → (fs : Feeds) → message fs ≡ text
       → (let s = startCall (sha1 32) n key ws .state in
@@ -222,7 +219,7 @@ module _ (n : ℕ) (key text : List ℕ) (words : Words 32 key) (bytes : Words 8
       o .0 .number ≡ 0 → o .1 ≡ hmac (SHA1 32) K text))
   streamed-tag ws ok fs is taken came vs done =
       let k = key-opens n key words in
-      sha1-tag n key ws ok K short-key (k .1) (k .2) fs (rw is bytes) taken came vs done ∙ ap (hmac (SHA1 32) K) is
+      sha1-tag n key ws ok K (k .1) (k .2) fs (rw is bytes) taken came vs done ∙ ap (hmac (SHA1 32) K) is
 
   pub one-call-tag : (came us : List ℕ) → hmacCall 32 n key text came us .0 .number ≡ 0
       → hmacCall 32 n key text came us .1 ≡ hmac (SHA1 32) K text
@@ -233,9 +230,7 @@ module _ (n : ℕ) (key text : List ℕ) (words : Words 32 key) (bytes : Words 8
       let size = eqb-true (length key) (16 * n) (holds _ _ (p .1 .0)) in
       let k = key-opens n key words in
       rw ok
-      (hmacTag-is (sha1 32) n some (sha1-proper 32) sha1-chains (sha1-opening n some) K text key us 0 short-key
-      (k .1) bytes size
-      (k .2))
+      (hmacTag-is (sha1 32) n some (sha1-proper 32) sha1-chains (sha1-opening n some) K text key us 0 (k .1) bytes size (k .2))
 
 -- ==== SHA-1: what the calls come to, on any state that has its type's sizes
 abbrev d : ℕ → ℕ

@@ -7,11 +7,14 @@ use native.Mathlib.Omega.{arith}
 use lib.Arith.{mod-mul}
 use lib.Bits.{bitXor, xor-comm, xor-block}
 use lib.Dec.{lit<}
-use lib.ListN.{length, getD, drop, replicate, length-append, length-drop, List·getD-append}
+use lib.ListN.{length, getD, drop, replicate, length-append, length-drop, length-replicate, List·getD-append}
+use lib.ListN.{replicate-append-replicate}
 use lib.Pow.{pow-pos, pow-add}
 use lib.Seq.{drop-append-le, drop-at, drop-drop}
 use Rattle.rules.specs.Supply.{Words}
+use Rattle.rules.specs.Shares.{each}
 use Rattle.rules.specs.Hash.{Hash, zeros, bytesOf, numberOf, wordsOf, allBytes, padding}
+use Rattle.rules.proofs.Openings.{each-at, each-drop}
 use Rattle.rules.proofs.Conversion.{words-drop}
 
 -- ---- every entry is a word
@@ -158,49 +161,63 @@ words-back size (w ∷ s) h =
     rw (drop-at (bytesOf size w) (allBytes size s) size (length-bytes size w))
     (ap₂ (λ a (l : List ℕ). a ∷ l) (number-back size w (allBytes size s) (h 0)) (words-back size s (λ i. h (suc i))))
 
--- ---- a constant XORed into every byte
-every-at : (c size m : ℕ) → m < size → getD (replicate size c) m 0 ≡ c
-every-at c zero m h = absurd (omega arith)
-every-at c (suc size) zero h = refl
-every-at c (suc size) (suc m) h = every-at c size m (omega arith)
+-- ---- bytes XORed one by one
+number-xor : (m : ℕ) (a b : List ℕ) → Words 8 a → Words 8 b → length b ≡ length a → m ≤ length a
+    → numberOf m (each bitXor a b) ≡ bitXor (numberOf m a) (numberOf m b)
+unfolding numberOf
+number-xor zero a b p q l h = refl
+number-xor (suc m) a b p q l h =
+    ap₂ (λ x y. x * 256 + y) (number-xor m a b p q l (omega arith)) (each-at bitXor a b l m h)
+    ∙ sym (xor-block 8 (numberOf m a) (numberOf m b) (getD a m 0) (getD b m 0) (p m) (q m))
+
+pub words-xor : (size m : ℕ) (a b : List ℕ) → Words 8 a → Words 8 b → length b ≡ length a → m * size ≤ length a
+    → wordsOf size m (each bitXor a b) ≡ each bitXor (wordsOf size m a) (wordsOf size m b)
+unfolding wordsOf each
+words-xor size zero a b p q l h = refl
+words-xor size (suc m) a b p q l h =
+    let left : length (drop size b) ≡ length (drop size a) = length-drop size b ∙ rw l (sym (length-drop size a)) in
+    let room : m * size ≤ length (drop size a) = rw (length-drop size a) (omega (arith, suc-mul m size)) in
+    rw (each-drop bitXor size a b)
+    (ap₂ (λ x (t : List ℕ). x ∷ t)
+    (number-xor size a b p q l (omega (arith, suc-mul m size)))
+    (words-xor size m (drop size a) (drop size b) (words-drop 8 size a p) (words-drop 8 size b q) left room))
+
+-- the same byte in every place
+pub bytes-alike : (c m : ℕ) → c < 256 → Words 8 (replicate m c)
+bytes-alike c zero h i = lit< tt
+bytes-alike c (suc m) h zero = h
+bytes-alike c (suc m) h (suc i) = bytes-alike c m h i
 
 pub every-lt : (c size : ℕ) → c < 256 → numberOf size (replicate size c) < 2 ^ (8 * size)
-every-lt c size h = rw (← pow-bytes size) (number-lt size (replicate size c) (bytes size))
+every-lt c size h = rw (← pow-bytes size) (number-lt size (replicate size c) (bytes-alike c size h))
+
+pub words-alike : (c size m : ℕ) → wordsOf size m (replicate (m * size) c) ≡ replicate m (numberOf size (replicate size c))
+unfolding wordsOf
+words-alike c size zero = refl
+words-alike c size (suc m) =
+    let one : List ℕ = replicate size c in
+    let parts : suc m * size ≡ size + m * size = omega (arith, suc-mul m size) in
+    let long : length one ≡ size = length-replicate {A = ℕ} size c in
+    rw (parts, ← replicate-append-replicate {A = ℕ} size (m * size) c)
+    (rw (number-append size one (replicate (m * size) c) (omega arith), drop-at one (replicate (m * size) c) size long)
+    (ap (λ (t : List ℕ). numberOf size one ∷ t) (words-alike c size m)))
+
+pub number-zeros : (m l : ℕ) → numberOf m (replicate l 0) ≡ 0
+unfolding numberOf
+number-zeros zero l = refl
+number-zeros (suc m) l = ap₂ (λ a b. a * 256 + b) (number-zeros m l) (zero-at l m)
   where
-    bytes : (m : ℕ) → Words 8 (replicate m c)
-    bytes zero i = lit< tt
-    bytes (suc m) zero = h
-    bytes (suc m) (suc i) = bytes m i
+    zero-at : (l i : ℕ) → getD {A = ℕ} (replicate l 0) i 0 ≡ 0
+    zero-at zero i = refl
+    zero-at (suc l) zero = refl
+    zero-at (suc l) (suc i) = zero-at l i
+
+pub map-each : (c : ℕ) (b : List ℕ) → map (bitXor c) b ≡ each bitXor b (replicate (length b) c)
+unfolding each
+map-each c [] = refl
+map-each c (a ∷ b) = ap₂ (λ x (t : List ℕ). x ∷ t) (xor-comm c a) (map-each c b)
 
 pub map-at : (f : ℕ → ℕ) (b : List ℕ) (m : ℕ) → m < length b → getD (map f b) m 0 ≡ f (getD b m 0)
 map-at f [] m h = absurd (omega arith)
 map-at f (a ∷ b) zero h = refl
 map-at f (a ∷ b) (suc m) h = map-at f b m (omega arith)
-
-number-xor : (c size m : ℕ) (b : List ℕ) → c < 256 → Words 8 b → m ≤ length b → m ≤ size
-    → numberOf m (map (bitXor c) b) ≡ bitXor (numberOf m b) (numberOf m (replicate size c))
-unfolding numberOf
-number-xor c size zero b hc h l s = refl
-number-xor c size (suc m) b hc h l s =
-    let C = numberOf m (replicate size c) in
-    let last = map-at (bitXor c) b m (omega arith) ∙ xor-comm c (getD b m 0) in
-    ap₂ (λ x y. x * 256 + y) (number-xor c size m b hc h (omega arith) (omega arith)) last
-    ∙ sym (ap (λ t. bitXor (numberOf m b * 256 + getD b m 0) (C * 256 + t)) (every-at c size m (omega arith))
-    ∙ xor-block 8 (numberOf m b) C (getD b m 0) c (h m) hc)
-
-pub words-xor : (c size m : ℕ) (b : List ℕ) → c < 256 → Words 8 b → length b ≡ m * size
-    → wordsOf size m (map (bitXor c) b) ≡ map (λ w. bitXor w (numberOf size (replicate size c))) (wordsOf size m b)
-unfolding wordsOf
-words-xor c size zero b hc h l = refl
-words-xor c size (suc m) b hc h l =
-    let room : size ≤ length b = omega (arith, suc-mul m size) in
-    let left : length (drop size b) ≡ m * size = length-drop size b ∙ omega (arith, suc-mul m size) in
-    rw (map-drop size b)
-    (ap₂ (λ a (t : List ℕ). a ∷ t)
-    (number-xor c size size b hc h room (omega arith))
-    (words-xor c size m (drop size b) hc (words-drop 8 size b h) left))
-  where
-    map-drop : (i : ℕ) (b : List ℕ) → drop i (map (bitXor c) b) ≡ map (bitXor c) (drop i b)
-    map-drop zero b = refl
-    map-drop (suc i) [] = refl
-    map-drop (suc i) (a ∷ b) = map-drop i b

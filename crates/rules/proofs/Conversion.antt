@@ -15,7 +15,8 @@ use Rattle.words.specs.Word.{plus, minus}
 use Rattle.words.proofs.Words.{plus-mod, plus-minus, plus-lt, minus-lt}
 use Rattle.rules.specs.Supply.{Draw, Rule, Shares, Words, next, opened, total, openedSum}
 use Rattle.rules.specs.Shares.{add, refresh}
-use Rattle.rules.specs.Convert.{Adder, Refresh, widen, halved, choose, toBoolIn, toBool, toArith}
+use Rattle.rules.specs.Numbers.{choose}
+use Rattle.rules.specs.Convert.{Adder, Refresh, widen, halved, toBoolIn, toBool, toArith}
 use Rattle.rules.specs.Counts.{addDraws, refreshDraws, toBoolDrawsIn, toBoolDraws, toArithDraws}
 use Rattle.rules.proofs.Rule.{give, bind, counted, said, alike, next-rule}
 use Rattle.rules.proofs.Openings.{total-append}

@@ -1,19 +1,25 @@
 -- What is asked of a hash, and what follows: how long texts are with their padding, and hashing block by block.
 use Prim.Native.Nat.{ℕ, zero, suc, _+_, _-_, _*_, _/_, _≤_, _<_}
 use mathlib.Core.Path.{_≡_, refl, sym, ap, ap₂, _∙_}
+use mathlib.Core.Bool.{Bool, true, false}
 use mathlib.Core.List.{List, _++_, map, append-assoc}
 use native.Mathlib.Nat.{mul-add-div, mul-div-right, mul-assoc, mul-comm, mul-add, add-mul, zero-add, suc-add, suc-mul}
+use native.Mathlib.Nat.{zero-mul, mul-le-mul-right}
+use native.Mathlib.Numerals.{add-one}
 use native.Mathlib.Omega.{arith}
 use lib.Bits.{bitXor}
-use lib.Dec.{lit<}
+use lib.Dec.{lit<, leb}
 use lib.ListN.{length, replicate, take, drop, length-append, length-drop, length-map, length-replicate}
 use lib.Seq.{take-at, drop-at, take-all, drop-drop, take-append-le, drop-append-le}
+use borrow.Author.Tests.{leb-true}
 use Rattle.rules.specs.Supply.{Words}
+use Rattle.rules.specs.Numbers.{choose}
+use Rattle.rules.specs.Shares.{each}
 use Rattle.rules.specs.Hash.{Hash, blockBytes, chainWords, digestBytes, wordsOf, allBytes, padding, ended, ending}
 use Rattle.rules.specs.Hash.{blocks, digest, keyBlock, hmac}
 use Rattle.rules.specs.Hmac.{everyByte, digestPadding}
 use Rattle.rules.proofs.Bytes.{words-join, words-zeros, bytes-are-words, padding-is-bytes, length-words, length-allBytes}
-use Rattle.rules.proofs.Bytes.{words-append, words-back, words-xor}
+use Rattle.rules.proofs.Bytes.{words-append, words-back, words-xor, words-alike, bytes-alike, map-each, all-bytes-are-bytes}
 
 -- a chain of the hash's words
 abbrev pub Chained : Hash → List ℕ → Type 0
@@ -30,15 +36,18 @@ pub record Proper (H : Hash) : Type 0 where
 abbrev pub Chains : Hash → Type 0
 Chains H = (h B : List ℕ) → length h ≡ chainWords H → Chained H (H .compress h B)
 
--- HMAC's words, of a key in words: the message's blocks after the inner key block, then the digest block after the outer
+-- a key block, of a key in words, with the byte b in every byte
+abbrev pub keyedWords : Hash → ℕ → List ℕ → List ℕ
+keyedWords H b key = each bitXor key (replicate 16 (everyByte H b))
+
+-- HMAC's words: the message's blocks after the inner key block, then the digest block after the outer
 abbrev lastOf : Hash → List ℕ → List ℕ → List ℕ → List ℕ
 lastOf H text inner outer =
     let W = ending H (blockBytes H) text in
     H .compress (H .compress (H .start) outer) (blocks H (length W / 16) W (H .compress (H .start) inner) ++ digestPadding H)
 
 unfoldable pub hmacOf : Hash → List ℕ → List ℕ → List ℕ
-hmacOf H key text =
-    lastOf H text (map (λ v. bitXor v (everyByte H 0x36)) key) (map (λ v. bitXor v (everyByte H 0x5c)) key)
+hmacOf H key text = lastOf H text (keyedWords H 0x36 key) (keyedWords H 0x5c key)
 
 module _ (H : Hash) (proper : Proper H) where
   abbrev B : ℕ
@@ -187,19 +196,54 @@ module _ (H : Hash) (proper : Proper H) where
         digest-front x (allBytes size D) block W (sym last-words)
         ∙ rw (sixteen, blocks-one W (H .compress (H .start) (wordsOf size 16 x)) sixteen)
 
-  module _ (key text : List ℕ) (short : length key ≤ B) (bytes : Words 8 key) where
+  module _ (chains : Chains H) where
+    -- the chain of a text, from the start
+    pub digest-chain : (text : List ℕ) → (let W = ending H 0 text in Chained H (blocks H (length W / 16) W (H .start)))
+    unfolding blocks
+    digest-chain text =
+        let q = (length text + H .lengthBytes) / B in
+        rw (ending-blocks 0 0 (sym (zero-mul B)) text) (once q (ending H 0 text))
+      where
+        once : (q : ℕ) (W : List ℕ) → Chained H (blocks H (q + 1) W (H .start))
+        once q W = rw (add-one q) (blocks-chain chains q (drop 16 W) _ (chains (H .start) (take 16 W) refl))
+
+  module _ (chains : Chains H) (key : List ℕ) (bytes : Words 8 key) where
+    -- the key, or its digest
+    abbrev short : List ℕ
+    short = choose (leb (length key) B) key (digest H key)
+
+    short-length : length short ≤ B
+    unfolding digest
+    short-length = go (leb (length key) B) refl
+      where
+        go : (t : Bool) → leb (length key) B ≡ t → length (choose t key (digest H key)) ≤ B
+        go true e = leb-true (length key) B e
+        go false e =
+            rw (length-allBytes size (blocks H _ (ending H 0 key) (H .start)), digest-chain chains key .0)
+            (mul-le-mul-right size (proper .short))
+
+    short-bytes : Words 8 short
+    unfolding digest
+    short-bytes = go (leb (length key) B)
+      where
+        go : (t : Bool) → Words 8 (choose t key (digest H key))
+        go true = bytes
+        go false = all-bytes-are-bytes size _
+
     key-length : length (keyBlock H key) ≡ B
     unfolding keyBlock
-    key-length = length-append key (replicate (B - length key) 0) ∙ rw (length-replicate {A = ℕ} (B - length key) 0) (omega arith)
+    key-length =
+        length-append short (replicate (B - length short) 0)
+        ∙ rw (length-replicate {A = ℕ} (B - length short) 0) (omega (arith, short-length))
 
     pub key-bytes : Words 8 (keyBlock H key)
     unfolding keyBlock
-    key-bytes = words-join 8 key (replicate (B - length key) 0) bytes (words-zeros 8 (B - length key))
+    key-bytes = words-join 8 short (replicate (B - length short) 0) short-bytes (words-zeros 8 (B - length short))
 
     -- over the key's words it is the standard's HMAC
-    pub hmacOf-is : Chains H → allBytes size (hmacOf H (wordsOf size 16 (keyBlock H key)) text) ≡ hmac H key text
+    pub hmacOf-is : (text : List ℕ) → allBytes size (hmacOf H (wordsOf size 16 (keyBlock H key)) text) ≡ hmac H key text
     unfolding hmacOf hmac
-    hmacOf-is chains =
+    hmacOf-is text =
         let b = keyBlock H key in
         let W = ending H B text in
         let x = map (bitXor 0x36) b in
@@ -214,8 +258,14 @@ module _ (H : Hash) (proper : Proper H) where
         xored v = length-map (keyBlock H key) (bitXor v) ∙ key-length
 
         marks : (v : ℕ) → v < 256
-            → wordsOf size 16 (map (bitXor v) (keyBlock H key)) ≡ map (λ w. bitXor w (everyByte H v)) (wordsOf size 16 (keyBlock H key))
-        marks v h = words-xor v size 16 (keyBlock H key) h key-bytes key-length
+            → wordsOf size 16 (map (bitXor v) (keyBlock H key)) ≡ keyedWords H v (wordsOf size 16 (keyBlock H key))
+        marks v h =
+            let b = keyBlock H key in
+            let same : List ℕ = replicate B v in
+            let long : length same ≡ length b = length-replicate {A = ℕ} B v ∙ sym key-length in
+            ap (wordsOf size 16) (map-each v b ∙ ap (λ l. each bitXor b (replicate l v)) key-length)
+            ∙ words-xor size 16 b same key-bytes (bytes-alike v B h) long (omega (arith, key-length))
+            ∙ ap (each bitXor (wordsOf size 16 b)) (words-alike v size 16)
 
   -- of a text in whole blocks and a rest: the blocks first, and then the rest with its padding
   pub last-blocks : (m : ℕ) (x y h : List ℕ) → length x ≡ m * B

@@ -15,6 +15,7 @@ pub mod Goods
 pub mod MaskedSha1
 pub mod Hashes
 pub mod MaskedHmac
+pub mod Keys
 pub mod Sizes
 pub mod Streaming
 pub mod Runs

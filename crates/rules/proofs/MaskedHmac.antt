@@ -1,24 +1,24 @@
 -- Masked HMAC over any hash in shares, once for all that is said of it: `Good x X` is what is kept of the shares x of the word X.
 -- Of any Good that the hash keeps, HMAC keeps it, draws so many words, and no other word has a say.
 use Prim.Native.Nat.{ℕ, zero, suc, _+_, _-_, _*_, _/_, _^_, _<_}
-use mathlib.Core.Path.{_≡_, refl, sym, ap, subst}
-use mathlib.Core.List.{List, [], _∷_, _++_, map}
-use native.Mathlib.Nat.{suc-mul, zero-mul, add-mul, zero-add, suc-add}
+use mathlib.Core.Path.{_≡_, refl, sym, ap, subst, _∙_}
+use mathlib.Core.List.{List, [], _∷_, _++_}
+use native.Mathlib.Nat.{suc-mul, zero-mul, add-mul}
 use native.Mathlib.Omega.{arith}
 use lib.Bits.{bitXor}
-use lib.ListN.{length, getD, set, List·getD-append}
-use lib.Seq.{set-append-left, getD-append-add}
-use Rattle.rules.specs.Supply.{Rule, Shares}
+use lib.ListN.{length, getD, replicate}
+use Rattle.rules.specs.Supply.{Rule, split}
+use Rattle.rules.specs.Shares.{each}
 use Rattle.rules.specs.Hash.{Hash, blockBytes, chainWords, ending, blocks as blocksOf}
 use Rattle.rules.specs.Sha1.{public, publics}
-use Rattle.rules.specs.Hmac.{Masked, splits, marked, everyByte, blocks, digestPadding, keyStep, textStep}
+use Rattle.rules.specs.Hmac.{Masked, marked, everyByte, blocks, digestPadding, keyStep, textStep}
 use Rattle.rules.specs.Hmac.{digestStep, hmacShares}
 use Rattle.rules.specs.Counts.{compressions}
 use Rattle.rules.proofs.Rule.{give, bind, counted}
-use Rattle.rules.proofs.Addition.{split-rule}
+use Rattle.rules.proofs.Openings.{each-append}
 use Rattle.rules.proofs.Bytes.{length-words, every-lt, bytes-are-words, padding-is-bytes}
 use Rattle.rules.proofs.Goods.{Goods, none, more, join, goods-front, goods-rest}
-use Rattle.rules.proofs.Hashes.{Proper, one-block, ending-length, ending-blocks, hmacOf}
+use Rattle.rules.proofs.Hashes.{Proper, keyedWords, one-block, ending-length, ending-blocks, hmacOf}
 
 -- what a hash in shares keeps; Fits says which public values may enter
 pub record Keeps (M : Masked) (n : ℕ) (Fits : ℕ → Type 0) (Good : List ℕ → ℕ → Type 0) : Type 0 where
@@ -26,7 +26,8 @@ pub record Keeps (M : Masked) (n : ℕ) (Fits : ℕ → Type 0) (Good : List ℕ
   pub compresses : {h C block B : List ℕ} → Goods Good (chainWords (M .standard)) h C → Goods Good 16 block B
       → Rule (M .draws n) (λ z. Goods Good (chainWords (M .standard)) z (M .standard .compress C B)) (M .compress n h block)
   pub shows : (v : ℕ) → Fits v → Good (public n v) v
-  pub marks : {x : List ℕ} {X : ℕ} (c : ℕ) → Fits c → Good x X → Good (set x 0 (bitXor (getD x 0 0) c)) (bitXor X c)
+  pub xors : {x y : List ℕ} {X Y : ℕ} → Good x X → Good y Y → Good (each bitXor x y) (bitXor X Y)
+  pub splits-one : (v : ℕ) → Fits v → Rule (n - 1) (λ x. Good x v) (split n v)
   pub starts : (i : ℕ) → i < chainWords (M .standard) → Fits (getD (M .standard .start) i 0)
   pub fits : (v : ℕ) → v < 2 ^ (8 * M .standard .wordBytes) → Fits v
 
@@ -37,30 +38,6 @@ module _ {M : Masked} {n : ℕ} {Fits : ℕ → Type 0} {Good : List ℕ → ℕ
   abbrev c : ℕ
   c = chainWords H
 
-  -- ---- a constant XORed into share 1 of every word
-  set-later : (x s : List ℕ) (i a : ℕ) → set (x ++ s) (length x + i) a ≡ x ++ set s i a
-  set-later [] s i a = rw zero-add
-  set-later (b ∷ x) s i a = rw (suc-add (length x) i) (ap (λ (l : List ℕ). b ∷ l) (set-later x s i a))
-
-  marked-later : (v j i : ℕ) (x s : List ℕ) → length x ≡ n → marked n v j (i + 1) (x ++ s) ≡ x ++ marked n v j i s
-  unfolding marked
-  marked-later v zero i x s h = refl
-  marked-later v (suc j) i x s h =
-      let e : (i + 1) * n ≡ length x + i * n = omega (arith, h, add-mul i 1 n) in
-      rw (e, getD-append-add x s (i * n) 0, set-later x s (i * n))
-      (marked-later v j (i + 1) x (set s (i * n) (bitXor (getD s (i * n) 0) v)) h)
-
-  marked-of : {m : ℕ} {z Z : List ℕ} (v : ℕ) → 0 < n → Fits v → Goods Good m z Z
-      → Goods Good m (marked n v m 0 z) (map (λ w. bitXor w v) Z)
-  unfolding marked
-  marked-of v h l none = none
-  marked-of v h l (more {m} {X} {x} {s} g gs) =
-      let some : 0 < length x = omega (arith, keeps .size x X g) in
-      let first = keeps .marks v l g in
-      let y = set x 0 (bitXor (getD x 0 0) v) in
-      rw (zero-mul n, List·getD-append x s 0 0 some, set-append-left x s 0 (bitXor (getD x 0 0) v) some)
-      (rw (← marked-later v m 0 y s (keeps .size y (bitXor X v) first)) at (more first (marked-of v h l gs)))
-
   -- ---- public words
   pub publics-of : (m : ℕ) (s : List ℕ) → length s ≡ m → ((i : ℕ) → i < m → Fits (getD s i 0))
       → Goods Good m (publics n s) s
@@ -70,6 +47,18 @@ module _ {M : Masked} {n : ℕ} {Fits : ℕ → Type 0} {Good : List ℕ → ℕ
   publics-of (suc m) [] l h = absurd (omega arith)
   publics-of (suc m) (a ∷ s) l h =
       more (keeps .shows a (h 0 (omega arith))) (publics-of m s (omega arith) (λ i b. h (suc i) (omega arith)))
+
+  -- XORed into words in shares
+  pub marked-of : {m : ℕ} {z Z cs : List ℕ} → Goods Good m z Z → Goods Good m (publics n cs) cs
+      → Goods Good m (marked n cs z) (each bitXor Z cs)
+  unfolding marked each
+  marked-of = xored
+    where
+      xored : {m : ℕ} {z Z y Y : List ℕ} → Goods Good m z Z → Goods Good m y Y
+          → Goods Good m (each bitXor z y) (each bitXor Z Y)
+      xored none none = none
+      xored (more {m} {X} {x} {s} g gs) (more {X = Y} {x = y} {s = t} h hs) =
+          rw (each-append bitXor x y s t (keeps .size y Y h ∙ sym (keeps .size x X g))) (more (keeps .xors g h) (xored gs hs))
 
   -- ---- blocks in shares
   pub blocks-rule : (m : ℕ) {W S h C : List ℕ} → Goods Good (m * 16) W S → Goods Good c h C
@@ -90,11 +79,15 @@ module _ {M : Masked} {n : ℕ} {Fits : ℕ → Type 0} {Good : List ℕ → ℕ
     fits-every b h = keeps .fits _ (every-lt b (H .wordBytes) h)
 
     pub key-rule : {key KEY : List ℕ} (b : ℕ) → b < 256 → Goods Good 16 key KEY
-        → Rule (M .draws n) (λ z. Goods Good c z (H .compress (H .start) (map (λ w. bitXor w (everyByte H b)) KEY)))
+        → Rule (M .draws n) (λ z. Goods Good c z (H .compress (H .start) (keyedWords H b KEY)))
         (keyStep M n b key)
+    unfolding publics
     key-rule b h g =
-        keeps .compresses (publics-of c (H .start) refl (keeps .starts))
-        (marked-of (everyByte H b) some (fits-every b h) g)
+        keeps .compresses (publics-of c (H .start) refl (keeps .starts)) (marked-of g (every 16))
+      where
+        every : (m : ℕ) → Goods Good m (publics n (replicate m (everyByte H b))) (replicate m (everyByte H b))
+        every zero = none
+        every (suc m) = more (keeps .shows _ (fits-every b h)) (every m)
 
     pub text-rule : {h C : List ℕ} (m before : ℕ) → before ≡ m * blockBytes H → (text : List ℕ)
         → ((i : ℕ) → Fits (getD (ending H before text) i 0)) → Goods Good c h C
@@ -131,18 +124,3 @@ module _ {M : Masked} {n : ℕ} {Fits : ℕ → Type 0} {Good : List ℕ → ℕ
         bind (key-rule 0x5c (omega arith) g) (λ o go.
         digest-rule ge go))))
         (omega (arith, add-mul q 1 d, add-mul q 4 d))
-
--- ---- words split one after the other
-abbrev pub Split : ℕ → List ℕ → ℕ → Type 0
-Split n x X = Shares n X x
-
-pub splits-rule : (n : ℕ) (vs : List ℕ) → 0 < n
-    → Rule (length vs * (n - 1)) (λ z. Goods (Split n) (length vs) z vs) (splits n vs)
-unfolding splits
-splits-rule n [] h = counted (give (λ z. Goods (Split n) 0 z []) [] none) (sym (zero-mul (n - 1)))
-splits-rule n (v ∷ vs) h =
-    counted
-    (bind (split-rule n v h) (λ x g.
-    bind (splits-rule n vs h) (λ z gs.
-    give (λ z. Goods (Split n) (suc (length vs)) z (v ∷ vs)) (x ++ z) (more g gs))))
-    (omega (arith, suc-mul (length vs) (n - 1)))

@@ -7,7 +7,7 @@ use native.Mathlib.Omega.{arith}
 use lib.Bits.{bitXor, xor-lt}
 use lib.ListN.{length, getD, set, drop, replicate, drop-of-length-le}
 use lib.Pow.{pow-pos}
-use lib.Seq.{drop-cons}
+use lib.Seq.{drop-cons, drop-nil}
 use Rattle.words.specs.Word.{double}
 use Rattle.words.proofs.Bits.{bits, v, _⊕_}
 use Rattle.words.proofs.Words.{xor-assoc, shift-xor, shift-zero}
@@ -76,6 +76,24 @@ module _ (f : ℕ → ℕ → ℕ) where
   each-at (a ∷ x) [] h i l = absurd (omega arith)
   each-at (a ∷ x) (b ∷ y) h zero l = refl
   each-at (a ∷ x) (b ∷ y) h (suc i) l = each-at x y (omega arith) i (omega arith)
+
+  pub each-drop : (i : ℕ) (x y : List ℕ) → drop i (each f x y) ≡ each f (drop i x) (drop i y)
+  unfolding each
+  each-drop zero x y = refl
+  each-drop (suc i) [] y = refl
+  each-drop (suc i) (a ∷ x) [] = rw (drop-nil (suc i)) (sym (none (drop i x)))
+    where
+      none : (x : List ℕ) → each f x [] ≡ []
+      none [] = refl
+      none (a ∷ x) = refl
+  each-drop (suc i) (a ∷ x) (b ∷ y) = each-drop i x y
+
+  pub each-append : (x y s t : List ℕ) → length y ≡ length x → each f (x ++ s) (y ++ t) ≡ each f x y ++ each f s t
+  unfolding each
+  each-append [] [] s t h = refl
+  each-append [] (b ∷ y) s t h = absurd (omega arith)
+  each-append (a ∷ x) [] s t h = absurd (omega arith)
+  each-append (a ∷ x) (b ∷ y) s t h = ap (λ (l : List ℕ). f a b ∷ l) (each-append x y s t (omega arith))
 
   -- what respects XOR is done to the opened values
   pub each-opens : f 0 0 ≡ 0

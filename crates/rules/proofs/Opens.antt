@@ -4,9 +4,9 @@ use mathlib.Core.Path.{_≡_, refl, ap, _∙_}
 use mathlib.Core.List.{List}
 use native.Mathlib.Nat.{lt-of-lt-of-le}
 use native.Mathlib.Omega.{arith}
-use lib.Bits.{bitXor, xor-lt, xor-comm, xor-zero-r}
+use lib.Bits.{bitXor, xor-lt, xor-zero-r}
 use lib.Dec.{lit<}
-use lib.ListN.{length, getD, set, length-map, length-set, length-replicate}
+use lib.ListN.{length, getD, length-map, length-replicate}
 use lib.Pow.{pow-mono}
 use Rattle.words.proofs.Words.{plus-lt}
 use Rattle.rules.specs.Supply.{Words, opened}
@@ -15,7 +15,8 @@ use Rattle.rules.specs.Standard.{H0, compress as compressOf}
 use Rattle.rules.specs.Sha1.{openWords, public, rotl, compress}
 use Rattle.rules.specs.Counts.{andDraws, sha1By}
 use Rattle.rules.proofs.Rule.{said}
-use Rattle.rules.proofs.Openings.{opened-zeros, opened-set}
+use Rattle.rules.proofs.Openings.{opened-zeros}
+use Rattle.rules.proofs.Addition.{split-rule}
 use Rattle.rules.proofs.Conversion.{Adds}
 use Rattle.rules.proofs.Functions.{plain-is, plain-lt, xors, chosen-rule, rotated-opens, rotl-is, ROTL-lt}
 use Rattle.rules.proofs.Goods.{Goods, goods-of, goods-open}
@@ -35,13 +36,6 @@ module _ (k n : ℕ) (some : 0 < n) where
   unfolding public opened
   shown v b =
       (omega (arith, length-replicate {A = ℕ} (n - 1) 0), ap (bitXor v) (opened-zeros (n - 1)) ∙ xor-zero-r v, b)
-
-  marked-one : (x : List ℕ) (X c : ℕ) → c < 2 ^ k → Masks k n x X → Masks k n (set x 0 (bitXor (getD x 0 0) c)) (bitXor X c)
-  marked-one x X c b g = (
-    length-set x 0 (bitXor (getD x 0 0) c) ∙ g .0,
-    opened-set x 0 c (omega (arith, g .0)) ∙ rw (g .1) (xor-comm c X),
-    xor-lt k X c (g .2) b,
-  )
 
   module _ (big : 32 ≤ k) (d : ℕ → ℕ) (adder : Adder) (adds : Adds k d adder) where
     fitting : (v : ℕ) → v < 2 ^ 32 → v < 2 ^ k
@@ -90,7 +84,8 @@ module _ (k n : ℕ) (some : 0 < n) where
           compresses = λ gh gb.
               said (compress-rule keeps-opening gh gb) (ap (λ t. compressionOf t n) e ∙ compression-is ands n) (λ z g. g);
           shows = shown;
-          marks = λ {x} {X} c b g. marked-one x X c b g;
+          xors = keeps-opening .xors;
+          splits-one = λ v b. said (split-rule n v some) refl (λ z g. (g .0, g .1, b));
           starts = λ i b. fitting _ (fits-start i);
           fits = fitting;
         }

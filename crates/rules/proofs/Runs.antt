@@ -1,10 +1,9 @@
 -- Runs of feeds from a start: how the message is cut has no say, how many words are drawn in all, and whose tag it is.
 use Prim.Native.Nat.{ℕ, _+_, _-_, _*_, _/_, _%_, _≤_, _<_}
 use mathlib.Core.Path.{_≡_, refl, sym, ap, ap₂, _∙_, subst}
-use mathlib.Core.List.{List, [], _∷_, _++_, map, append-assoc, append-nil}
+use mathlib.Core.List.{List, [], _∷_, _++_, append-assoc, append-nil}
 use native.Mathlib.Nat.{zero-add, add-zero, zero-mul, add-mul, mul-assoc}
 use native.Mathlib.Omega.{arith}
-use lib.Bits.{bitXor}
 use lib.ListN.{length, getD, take, drop, length-append, length-drop, take-append-drop, List·getD-append}
 use lib.Seq.{getD-append-add, getD-take, length-take-le, take-at, drop-at, drop-nil}
 use borrow.Author.Tests.{leb-true}
@@ -12,7 +11,7 @@ use Rattle.rules.specs.declared.State.{State}
 use Rattle.rules.specs.Supply.{Rule, Agree, Words}
 use Rattle.rules.specs.Numbers.{first}
 use Rattle.rules.specs.Hash.{Hash, blockBytes, chainWords, wordsOf, ending, blocks as blocksOf}
-use Rattle.rules.specs.Hmac.{Masked, everyByte, tagOf}
+use Rattle.rules.specs.Hmac.{Masked, tagOf}
 use Rattle.rules.specs.Counts.{feedDraws, finishDraws}
 use Rattle.rules.specs.Calls.{call}
 use Rattle.rules.specs.Stream.{Feeds, state, fullBlocks, feed, finish, feedCall, finishCall, message, after}
@@ -20,7 +19,7 @@ use Rattle.rules.specs.Stream.{drawn, Accepted, fedFrom}
 use Rattle.rules.proofs.Rule.{said, counted, alike}
 use Rattle.rules.proofs.Bytes.{length-words, words-join, words-front, words-split}
 use Rattle.rules.proofs.Conversion.{words-take, words-drop}
-use Rattle.rules.proofs.Hashes.{Proper, blocks-joined, last-blocks, hmacOf}
+use Rattle.rules.proofs.Hashes.{Proper, keyedWords, blocks-joined, last-blocks, hmacOf}
 use Rattle.rules.proofs.Goods.{Goods, goods-size}
 use Rattle.rules.proofs.MaskedHmac.{Keeps}
 use Rattle.rules.proofs.Sizes.{Sized, words-size}
@@ -255,7 +254,7 @@ module _ {M : Masked} {n : ℕ} {Fits : ℕ → Type 0} {Good : List ℕ → ℕ
   B = blockBytes S
 
   abbrev keyed : ℕ → List ℕ
-  keyed b = S .compress (S .start) (map (λ w. bitXor w (everyByte S b)) KEY)
+  keyed b = S .compress (S .start) (keyedWords S b KEY)
 
   abbrev innerOf : List ℕ → List ℕ
   innerOf text = blocksOf S (length text / B) (wordsOf (S .wordBytes) (length text / B * 16) text) (keyed 0x36)

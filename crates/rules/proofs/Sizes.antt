@@ -4,23 +4,23 @@ use mathlib.Core.Path.{_≡_, refl, ap, _∙_}
 use mathlib.Core.List.{List}
 use native.Mathlib.Nat.{suc-mul, mul-suc, zero-mul, add-mul, add-zero, mul-assoc}
 use native.Mathlib.Omega.{arith}
-use lib.Bits.{bitXor}
-use lib.ListN.{length, getD, length-map, length-set, length-replicate}
+use lib.ListN.{length, length-map, length-replicate}
 use Rattle.rules.specs.Supply.{Rule}
 use Rattle.rules.specs.Shares.{add}
 use Rattle.rules.specs.Convert.{Adder}
-use Rattle.rules.specs.Counts.{andDraws, addDraws, quarterAnds, roundsAnds, compressAnds, compressDraws, hmacDraws, sha1By, sha1}
-use Rattle.rules.specs.Hash.{Hash, chainWords, digestBytes, allBytes, wordsOf, keyBlock}
+use Rattle.rules.specs.Counts.{andDraws, addDraws, quarterAnds, roundsAnds, compressAnds, compressDraws, keyDraws, hmacDraws, sha1By, sha1}
+use Rattle.rules.specs.Hash.{Hash, chainWords, digestBytes, allBytes}
 use Rattle.rules.specs.Sha1.{openWords, public, rotl, compress}
 use Rattle.rules.specs.Hmac.{Masked, splitKey, hmacShares, hmacTag}
 use Rattle.rules.proofs.Rule.{give, bind, said, counted}
-use Rattle.rules.proofs.Addition.{add-loop-rule}
+use Rattle.rules.proofs.Addition.{add-loop-rule, split-rule}
 use Rattle.rules.proofs.Functions.{xors, chosen-rule}
-use Rattle.rules.proofs.Bytes.{length-words, length-allBytes}
+use Rattle.rules.proofs.Bytes.{length-allBytes}
 use Rattle.rules.proofs.Goods.{Goods, length-open, goods-size, goods-of}
 use Rattle.rules.proofs.Hashes.{Proper}
 use Rattle.rules.proofs.MaskedSha1.{Keeps, compressionOf, compress-rule}
-use Rattle.rules.proofs.MaskedHmac.{Keeps as KeepsHash, hmac-rule, splits-rule}
+use Rattle.rules.proofs.MaskedHmac.{Keeps as KeepsHash, hmac-rule}
+use Rattle.rules.proofs.Keys.{splitKey-rule}
 
 -- what is asked of an addition that draws d n words
 abbrev pub Sizes : (ℕ → ℕ) → Adder → Type 0
@@ -65,7 +65,8 @@ module _ (k n : ℕ) (some : 0 < n) (ands : ℕ) (adder : Adder) (sizes : Sizes 
         size = λ x X g. g;
         compresses = λ gh gb. said (compress-rule keeps-size gh gb) (compression-is ands n) (λ z g. g);
         shows = keeps-size .shows;
-        marks = λ {x} c u g. length-set x 0 (bitXor (getD x 0 0) c) ∙ g;
+        xors = λ {x} {y} {X} {Y} g h. keeps-size .xors {X = X} {Y = Y} g h;
+        splits-one = λ v u. said (split-rule n v some) refl (λ z g. g .0);
         starts = λ i b. tt;
         fits = λ v b. tt;
       }
@@ -87,6 +88,11 @@ module _ (M : Masked) (n : ℕ) (some : 0 < n) (keeps : KeepsHash M n (λ v. Uni
   compress-sized h block lh lb =
       said (keeps .compresses (words-size (chainWords H) h lh) (words-size 16 block lb)) refl (λ z g. goods-size (keeps .size) g)
 
+  pub splitKey-sized : Proper H → (key : List ℕ)
+      → Rule (keyDraws M n (length key)) (λ z. length z ≡ 16 * n) (splitKey M n key)
+  splitKey-sized proper key =
+      said (splitKey-rule keeps proper some key (λ m i. tt)) refl (λ z g. goods-size (keeps .size) g)
+
   module _ (proper : Proper H) (key text : List ℕ) (size : length key ≡ 16 * n) where
     pub hmacShares-sized : Rule (hmacDraws M n (length text)) (λ z. length z ≡ chainWords H * n) (hmacShares M n key text)
     hmacShares-sized =
@@ -100,13 +106,6 @@ module _ (M : Masked) (n : ℕ) (some : 0 < n) (keeps : KeepsHash M n (λ v. Uni
         give (λ t. length t ≡ digestBytes H) (allBytes (H .wordBytes) (openWords n (chainWords H) z))
         (length-allBytes (H .wordBytes) (openWords n (chainWords H) z) ∙ ap (λ t. t * H .wordBytes) (length-open n (chainWords H) z))))
         (omega arith)
-
-pub splitKey-sized : (H : Hash) (n : ℕ) (key : List ℕ) → 0 < n → Rule (16 * (n - 1)) (λ z. length z ≡ 16 * n) (splitKey H n key)
-unfolding splitKey
-splitKey-sized H n key h =
-    let e = length-words (H .wordBytes) 16 (keyBlock H key) in
-    said (splits-rule n (wordsOf (H .wordBytes) 16 (keyBlock H key)) h) (ap (λ t. t * (n - 1)) e)
-    (λ z g. goods-size (λ x X p. p .0) g ∙ ap (λ t. t * n) e)
 
 -- ---- in closed form
 pub andDraws-twice : (m : ℕ) → andDraws (suc m) * 2 ≡ suc m * m

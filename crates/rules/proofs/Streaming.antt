@@ -1,23 +1,22 @@
 -- Streaming over any hash in shares: what a feed makes of a state, that pieces may be joined, and what finish makes.
 use Prim.Native.Nat.{ℕ, zero, suc, _+_, _-_, _*_, _/_, _%_, _≤_, _<_}
 use mathlib.Core.Path.{_≡_, refl, sym, ap, _∙_}
-use mathlib.Core.List.{List, [], _++_, map, append-assoc, append-nil}
+use mathlib.Core.List.{List, [], _++_, append-assoc, append-nil}
 use native.Mathlib.Nat.{zero-add, add-zero, suc-add, suc-mul, zero-mul, add-mul}
 use native.Mathlib.Omega.{arith}
-use lib.Bits.{bitXor}
 use lib.ListN.{length, getD, drop, length-append, length-drop}
 use lib.Seq.{take-at, drop-at, drop-drop, drop-append-le}
 use Rattle.rules.specs.declared.State.{State}
 use Rattle.rules.specs.Supply.{Draw, Rule}
 use Rattle.rules.specs.Hash.{Hash, blockBytes, chainWords, wordsOf, ending, blocks as blocksOf}
 use Rattle.rules.specs.Sha1.{publics}
-use Rattle.rules.specs.Hmac.{Masked, everyByte, digestPadding, textStep, digestStep, tagOf}
+use Rattle.rules.specs.Hmac.{Masked, digestPadding, textStep, digestStep, tagOf}
 use Rattle.rules.specs.Counts.{startDraws, feedDraws, finishDraws}
 use Rattle.rules.specs.Stream.{inUse, waiting, ReadAlike, state, start, fedFrom, finishedFrom, fullBlocks, feed, finish}
 use Rattle.rules.proofs.Rule.{give, bind, said, counted}
 use Rattle.rules.proofs.Bytes.{length-words, words-front, words-split}
 use Rattle.rules.proofs.Goods.{Goods}
-use Rattle.rules.proofs.Hashes.{Proper}
+use Rattle.rules.proofs.Hashes.{Proper, keyedWords}
 use Rattle.rules.proofs.MaskedHmac.{Keeps, publics-of, key-rule, text-rule, digest-rule}
 
 -- ---- arithmetic of blocks
@@ -113,9 +112,9 @@ module _ {M : Masked} {n : ℕ} {Fits : ℕ → Type 0} {Good : List ℕ → ℕ
     pub outer : List ℕ
     pub is : t ≡ state n 0 inner outer []
     pub inner-good : Goods Good (chainWords K) inner
-        (K .compress (K .start) (map (λ w. bitXor w (everyByte K 0x36)) KEY))
+        (K .compress (K .start) (keyedWords K 0x36 KEY))
     pub outer-good : Goods Good (chainWords K) outer
-        (K .compress (K .start) (map (λ w. bitXor w (everyByte K 0x5c)) KEY))
+        (K .compress (K .start) (keyedWords K 0x5c KEY))
 
   pub start-rule : Rule (startDraws M n) Started (start M n key)
   unfolding start

@@ -17,7 +17,7 @@ use Rattle.rules.specs.Supply.{Draw, Rule, split}
 use Rattle.rules.specs.Numbers.{largest, longestKey, longestMessage, both, allowed, fit, Test, test, first}
 use Rattle.rules.specs.Shares.{refresh, expand, and, add}
 use Rattle.rules.specs.Convert.{toBool, toArith}
-use Rattle.rules.specs.Counts.{refreshDraws, andDraws, addDraws, toBoolDraws, toArithDraws, compressDraws, hmacDraws, sha1}
+use Rattle.rules.specs.Counts.{refreshDraws, andDraws, addDraws, toBoolDraws, toArithDraws, compressDraws, keyDraws, hmacDraws, sha1}
 use Rattle.rules.specs.Standard.{SHA1}
 use Rattle.rules.specs.Sha1.{compress, used, chainOf}
 use Rattle.rules.specs.Hmac.{splitKey, hmacTag}
@@ -198,13 +198,13 @@ module _ (n : ℕ) (came ws : List ℕ) (q : Answer) where
 
   pub splitKey-needs : (key : List ℕ)
       → first (test 1 (allowed n) ∷ test 3 (eqb (length came) (16 * n)) ∷ test 4 (leb (length key) longestKey) ∷ []) ≡ 0
-      → query (test 1 (allowed n) ∷ test 4 (leb (length key) longestKey) ∷ []) (16 * (n - 1)) ≡ q
-      → splitKey (SHA1 32) n key ws 0 .1 ≡ q .drawn
+      → query (test 1 (allowed n) ∷ test 4 (leb (length key) longestKey) ∷ []) (keyDraws (sha1 32) n (length key)) ≡ q
+      → splitKey (sha1 32) n key ws 0 .1 ≡ q .drawn
   splitKey-needs key h e =
       let p = passed _ h in
       let count = holds _ _ (p .0) in
-      needs (16 * (n - 1)) q _ ws e (taken-text n _ count (holds _ _ (p .1 .1 .0)))
-      (splitKey-sized (SHA1 32) n key (within n count .0))
+      needs (keyDraws (sha1 32) n (length key)) q _ ws e (taken-text n _ count (holds _ _ (p .1 .1 .0)))
+      (splitKey-sized (sha1 32) n (within n count .0) (sha1-size n (within n count .0)) (sha1-proper 32) key)
 
   pub hmacTag-needs : (key text : List ℕ)
       → first

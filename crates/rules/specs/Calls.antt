@@ -18,7 +18,7 @@ use Rattle.rules.specs.Sha1.{compress, used, chainOf}
 use Rattle.rules.specs.Hash.{Bytes, digestBytes}
 use Rattle.rules.specs.Standard.{SHA1}
 use Rattle.rules.specs.Hmac.{splitKey, hmacTag}
-use Rattle.rules.specs.Counts.{refreshDraws, andDraws, addDraws, toBoolDraws, toArithDraws, compressDraws, hmacDraws, sha1}
+use Rattle.rules.specs.Counts.{refreshDraws, andDraws, addDraws, toBoolDraws, toArithDraws, compressDraws, keyDraws, hmacDraws, sha1}
 
 -- ---- two shares: working forms take plain numbers and refuse nothing
 -- x − r, from x′ and r with x = x′ ⊕ r
@@ -85,11 +85,11 @@ abbrev pub b2aCall : Width → Count → Sharing → Sharing → Supply → Answ
 b2aCall k n x = oneCall n n x (toArith k (add k) refresh x)
 
 -- ---- SHA-1 and HMAC
-abbrev pub splitKeyCall : Count → Bytes → Sharing → Supply → Answer × Sharing
-splitKeyCall n key came =
+abbrev pub splitKeyCall : Width → Count → Bytes → Sharing → Supply → Answer × Sharing
+splitKeyCall k n key came =
     call
     (test 1 (allowed n) ∷ test 3 (eqb (length came) (16 * n)) ∷ test 4 (leb (length key) longestKey) ∷ [])
-    (splitKey (SHA1 32) n key)
+    (splitKey (sha1 k) n key)
     came
 
 abbrev pub hmacCall : Width → Count → Sharing → Bytes → Bytes → Supply → Answer × Bytes
@@ -144,8 +144,8 @@ a2bWords k n = query (test 1 (allowed n) ∷ []) (toBoolDraws (addDraws k) n)
 abbrev pub b2aWords : Width → Count → Answer
 b2aWords k n = query (test 1 (allowed n) ∷ []) (toArithDraws (addDraws k) refreshDraws n)
 
-abbrev pub splitKeyWords : Count → ℕ → Answer
-splitKeyWords n length = query (test 1 (allowed n) ∷ test 4 (leb length longestKey) ∷ []) (16 * (n - 1))
+abbrev pub splitKeyWords : Width → Count → ℕ → Answer
+splitKeyWords k n length = query (test 1 (allowed n) ∷ test 4 (leb length longestKey) ∷ []) (keyDraws (sha1 k) n length)
 
 abbrev pub compressWords : Width → Count → Answer
 compressWords k n = query (test 1 (allowed n) ∷ []) (compressDraws k n)

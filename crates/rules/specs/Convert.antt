@@ -1,11 +1,11 @@
 -- Section 5: the conversions of n shares. The addition and the refresh that they use are parameters.
 use Prim.Native.Nat.{ℕ, zero, suc, _-_, _/_}
-use mathlib.Core.Bool.{Bool, true, false}
 use mathlib.Core.List.{[], _∷_, _++_, map}
 use lib.Dec.{leb}
 use lib.ListN.{length, take, drop}
 use Rattle.words.specs.Word.{Width, minus}
 use Rattle.rules.specs.Supply.{Count, Sharing, Draw, next, opened}
+use Rattle.rules.specs.Numbers.{choose}
 use Rattle.rules.specs.Shares.{expand}
 
 abbrev pub Adder : Type 0
@@ -27,10 +27,6 @@ halved convert adder a ws at =
     let right = convert (drop (n / 2) a) ws (x .1) in
     let y = widen n (right .0) ws (right .1) in
     adder (x .0) (y .0) ws (y .1)
-
-abbrev pub choose : {A : Type 0} → Bool → A → A → A
-choose true a b = a
-choose false a b = b
 
 -- Arithmetic to Boolean: one share stays, otherwise by halves. At most `deep` halvings; as many as there are shares
 -- are enough.

@@ -5,11 +5,12 @@ use lib.Dec.{leb}
 use Rattle.words.specs.Word.{Width}
 use Rattle.rules.specs.Supply.{Count}
 use Rattle.rules.specs.Shares.{add}
-use Rattle.rules.specs.Convert.{Adder, choose}
+use Rattle.rules.specs.Numbers.{choose}
+use Rattle.rules.specs.Convert.{Adder}
 use Rattle.rules.specs.Hash.{Hash, blockBytes}
 use Rattle.rules.specs.Standard.{SHA1}
 use Rattle.rules.specs.Sha1.{compress}
-use Rattle.rules.specs.Hmac.{Masked}
+use Rattle.rules.specs.Hmac.{Masked, wordsFor}
 
 -- how many pairs n shares have: n(n−1)/2
 unfoldable pub andDraws : Count → ℕ
@@ -52,6 +53,13 @@ compressAnds a = roundsAnds a 80 0 + 5 * a
 
 abbrev pub compressDraws : Width → Count → ℕ
 compressDraws k n = compressAnds k * andDraws n
+
+-- a key of l bytes: n−1 for each of its words; where it is over one block, then the compressions that hash it
+abbrev pub keyDraws : Masked → Count → ℕ → ℕ
+keyDraws M n l =
+    let H = M .standard in
+    let hashed = ((l + H .lengthBytes) / blockBytes H + 1) * M .draws n in
+    choose (leb l (blockBytes H)) (16 * (n - 1)) (wordsFor H l * (n - 1) + hashed)
 
 -- how many compressions HMAC makes of a message of l bytes
 abbrev pub compressions : Hash → ℕ → ℕ

@@ -2,8 +2,10 @@
 use Prim.Native.Nat.{ℕ, zero, suc, _+_, _-_, _*_, _/_, _%_, _^_}
 use mathlib.Core.List.{List, [], _∷_, _++_, map}
 use lib.Bits.{bitXor}
+use lib.Dec.{leb}
 use lib.ListN.{length, getD, replicate, take, drop}
 use Rattle.words.specs.Word.{Word}
+use Rattle.rules.specs.Numbers.{choose}
 
 abbrev pub Bytes : Type 0
 Bytes = List ℕ
@@ -69,9 +71,12 @@ digest H message =
     let W = ending H 0 message in
     allBytes (H .wordBytes) (blocks H (length W / 16) W (H .start))
 
--- RFC 2104, 2: the key, of at most one block, with zeros appended to a block
+-- RFC 2104, 2: a key over one block is hashed first; zeros are appended up to a block
+abbrev pub filled : ℕ → List ℕ → List ℕ
+filled room x = x ++ replicate (room - length x) 0
+
 unfoldable pub keyBlock : Hash → Bytes → Bytes
-keyBlock H key = key ++ replicate (blockBytes H - length key) 0
+keyBlock H key = filled (blockBytes H) (choose (leb (length key) (blockBytes H)) key (digest H key))
 
 -- H(K XOR opad, H(K XOR ipad, text))
 unfoldable pub hmac : Hash → Bytes → Bytes → Bytes

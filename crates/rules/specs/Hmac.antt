@@ -1,11 +1,15 @@
--- Sections 2 and 6: a key in shares, and masked HMAC of a message, over any hash in shares.
+-- Sections 2 and 6, and request (iii): a key in shares, and masked HMAC of a message, over any hash in shares.
 use Prim.Native.Nat.{ℕ, zero, suc, _+_, _-_, _*_, _/_}
 use mathlib.Core.List.{List, [], _∷_, _++_}
 use lib.Bits.{bitXor}
-use lib.ListN.{length, getD, set, take, drop, replicate}
+use lib.Dec.{leb}
+use lib.ListN.{length, take, drop, replicate}
 use Rattle.words.specs.Word.{Word}
 use Rattle.rules.specs.Supply.{Draw, Count, Sharing, split}
-use Rattle.rules.specs.Hash.{Bytes, Hash, blockBytes, chainWords, digestBytes, numberOf, wordsOf, allBytes, padding, ending, keyBlock}
+use Rattle.rules.specs.Numbers.{choose}
+use Rattle.rules.specs.Shares.{each}
+use Rattle.rules.specs.Hash.{Bytes, Hash, blockBytes, chainWords, digestBytes, numberOf, wordsOf, allBytes, padding, ending}
+use Rattle.rules.specs.Hash.{filled}
 use Rattle.rules.specs.Sha1.{publics, openWords}
 
 -- A hash in shares: the standard's, its compression of a block of 16 words into a chain, and how many words that draws
@@ -22,21 +26,16 @@ splits n (v ∷ vs) ws at =
     let rest = splits n vs ws (s .1) in
     (s .0 ++ rest .0, rest .1)
 
--- A key of up to one block is padded on the right with zero bytes to a block, read as 16 big-endian words, and split word by word
-unfoldable pub splitKey : Hash → Count → Bytes → Draw Sharing
-splitKey H n key = splits n (wordsOf (H .wordBytes) 16 (keyBlock H key))
-
--- a XOR constant goes into share 1, of m words from word i on
-unfoldable pub marked : Count → Word → ℕ → ℕ → Sharing → Sharing
-marked n c zero i z = z
-marked n c (suc m) i z = marked n c m (i + 1) (set z (i * n) (bitXor (getD z (i * n) 0) c))
+-- A XOR constant, also a padding byte in a word already shared, goes into share 1: words of shares XOR public words
+unfoldable pub marked : Count → List Word → Sharing → Sharing
+marked n cs z = each bitXor z (publics n cs)
 
 -- a key block: the byte c in every byte of share 1
 abbrev pub everyByte : Hash → ℕ → Word
 everyByte H c = numberOf (H .wordBytes) (replicate (H .wordBytes) c)
 
 abbrev pub keyed : Hash → Count → ℕ → Sharing → Sharing
-keyed H n c key = marked n (everyByte H c) 16 0 key
+keyed H n c key = marked n (replicate 16 (everyByte H c)) key
 
 -- m blocks in shares, compressed one after the other
 unfoldable pub blocks : Masked → Count → ℕ → Sharing → Sharing → Draw Sharing
@@ -44,6 +43,30 @@ blocks M n zero W h ws at = (h, at)
 blocks M n (suc m) W h ws at =
     let c = M .compress n h (take (16 * n) W) ws at in
     blocks M n m (drop (16 * n) W) (c .0) ws (c .1)
+
+-- A key's bytes as they stand, in m big-endian words, filled with zero bytes; ceil(l / bytes of a word) words hold l bytes
+abbrev pub keyWords : Hash → ℕ → Bytes → List Word
+keyWords H m key = wordsOf (H .wordBytes) m (filled (m * H .wordBytes) key)
+
+abbrev pub wordsFor : Hash → ℕ → ℕ
+wordsFor H l = (l + (H .wordBytes - 1)) / H .wordBytes
+
+-- A key over one block: all its words are split, then hashed in shares under their true length; the padding is 0 where
+-- the key's bytes stand. The digest's words, then zero shares, are the key block.
+unfoldable pub hashKey : Masked → Count → Bytes → Draw Sharing
+hashKey M n key ws at =
+    let H = M .standard in
+    let s = splits n (keyWords H (wordsFor H (length key)) key) ws at in
+    let pad = ending H 0 (replicate (length key) 0) in
+    let W = marked n pad (filled (length pad * n) (s .0)) in
+    let d = blocks M n (length pad / 16) W (publics n (H .start)) ws (s .1) in
+    (filled (16 * n) (d .0), d .1)
+
+-- A key of up to one block is padded with zero bytes to a block, read as 16 big-endian words, and split word by word
+unfoldable pub splitKey : Masked → Count → Bytes → Draw Sharing
+splitKey M n key =
+    let H = M .standard in
+    choose (leb (length key) (blockBytes H)) (splits n (keyWords H 16 key)) (hashKey M n key)
 
 -- the digest block: a digest in shares, and its padding after one block and itself
 abbrev pub digestPadding : Hash → List Word

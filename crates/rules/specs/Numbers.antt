@@ -10,10 +10,14 @@ largest = 8
 
 -- the longest key given for splitting, and the longest message, in bytes
 abbrev pub longestKey : ℕ
-longestKey = 64
+longestKey = 1024
 
 abbrev pub longestMessage : ℕ
 longestMessage = 4096
+
+abbrev pub choose : {A : Type 0} → Bool → A → A → A
+choose true a b = a
+choose false a b = b
 
 abbrev pub either : Bool → Bool → Bool
 either true b = true

@@ -14,7 +14,7 @@ use Rattle.rules.specs.declared.Fed.{Fed}
 use Rattle.rules.specs.declared.Fed.the-variants.{Taken, Refused}
 use Rattle.rules.specs.Supply.{Draw, Count, Supply, Sharing}
 use Rattle.rules.specs.Numbers.{longestMessage, allowed, fit, test, settled}
-use Rattle.rules.specs.Hash.{Bytes, Hash, blockBytes, chainWords, digestBytes, wordsOf}
+use Rattle.rules.specs.Hash.{Bytes, Hash, blockBytes, chainWords, digestBytes, wordsOf, filled}
 use Rattle.rules.specs.Sha1.{publics}
 use Rattle.rules.specs.Hmac.{Masked, keyStep, textStep, digestStep, tagOf}
 use Rattle.rules.specs.Counts.{startDraws, feedDraws, finishDraws}
@@ -38,9 +38,6 @@ pub record ReadAlike (H : Hash) (s t : State) : Type 0 where
   pub tails : waiting H s ≡ waiting H t
 
 -- a state made anew: unused words of both chains and unfilled bytes of the tail are 0
-abbrev pub filled : ℕ → List ℕ → List ℕ
-filled room x = x ++ replicate (room - length x) 0
-
 unfoldable pub state : Count → ℕ → Sharing → Sharing → Bytes → State
 state n bytes inner outer tail =
     record {

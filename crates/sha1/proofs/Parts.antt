@@ -12,7 +12,7 @@ use Rattle.rules.specs.Shares.{add}
 use Rattle.rules.specs.Convert.{Adder}
 use Rattle.rules.specs.Counts.{andDraws, roundsAnds, compressAnds, compressDraws}
 use Rattle.rules.specs.declared.Chain.{Chain}
-use Rattle.rules.specs.Stream.{filled}
+use Rattle.rules.specs.Hash.{filled}
 use Rattle.rules.specs.Sha1.{word, rounds, schedule, sums, compress, used, chainOf}
 use Rattle.rules.proofs.Loops.{Run, times-suc, chain-length, length-used}
 use Rattle.masked_words.specs.Words.{firsts}

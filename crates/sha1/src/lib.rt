@@ -6,7 +6,7 @@ ghost use lib.ListN.{length, drop};
 ghost use Rattle.rules.specs.Numbers.{largest};
 ghost use Rattle.rules.specs.Shares.{add};
 ghost use Rattle.rules.specs.Sha1.{word, sums, compress, used, chainOf};
-ghost use Rattle.rules.specs.Stream.{filled};
+ghost use Rattle.rules.specs.Hash.{filled};
 ghost use Rattle.rules.specs.Counts.{andDraws, compressDraws};
 ghost use Rattle.masked_words.specs.Words.{Sized, firsts};
 use masked_words::add_in;

@@ -8,11 +8,11 @@ use lib.ListN.{length, take, replicate}
 use Rattle.rules.specs.declared.Chain.{Chain}
 use Rattle.rules.specs.declared.State.{State}
 use Rattle.rules.specs.Numbers.{longestMessage}
-use Rattle.rules.specs.Hash.{numberOf, allBytes, ending}
+use Rattle.rules.specs.Hash.{numberOf, allBytes, ending, filled}
 use Rattle.rules.specs.Standard.{SHA1, H0}
 use Rattle.rules.specs.Sha1.{publics, openWords, used}
 use Rattle.rules.specs.Hmac.{marked, blocks, digestPadding}
-use Rattle.rules.specs.Stream.{filled, state, start, finish}
+use Rattle.rules.specs.Stream.{state, start, finish}
 use Rattle.rules.proofs.Hashes.{ending-blocks}
 use Rattle.rules.proofs.Tags.{sha1-proper}
 use Rattle.hash.specs.Hash.{hash}
