@@ -1,1 +1,2 @@
 pub mod Publics
+pub mod Blocks

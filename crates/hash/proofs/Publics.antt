@@ -1,16 +1,22 @@
--- Public words in shares, as the code's loop fills them into zeros, and the chain that a hash starts from.
+-- Constants XORed into share 1, as the code's loop marks them; public words in shares; the chain that a hash starts from.
 use Prim.Native.Nat.{ℕ, zero, suc, _+_, _-_, _*_, _≤_, _<_}
-use mathlib.Core.Path.{_≡_, sym, ap, _∙_}
-use mathlib.Core.List.{List, [], _∷_, _++_, append-nil, append-assoc}
+use mathlib.Core.Path.{_≡_, refl, sym, ap, ap₂, _∙_}
+use mathlib.Core.List.{List, [], _∷_, _++_}
 use native.Mathlib.Omega.{arith}
-use native.Mathlib.Nat.{mul-le-mul-right, suc-mul, sub-zero, zero-mul}
+use native.Mathlib.Nat.{mul-le-mul-right, suc-add, suc-mul, zero-add, zero-mul}
 use native.Mathlib.Numerals.{add-one}
-use lib.ListN.{length, getD, set, take, drop, replicate, length-append, length-replicate, replicate-append-replicate}
-use lib.Seq.{set-at, take-at, take-all, take-suc, length-take-le, take-append-add, drop-append-add, take-nil, drop-nil}
+use lib.Bits.{bitXor}
+use lib.ListN.{length, getD, set, take, drop, replicate, length-append, length-drop, length-set, length-replicate, take-append-drop}
+use lib.ListN.{drop-of-length-le, List·getD-append}
+use lib.Seq.{drop-cons, take-at, length-take-le, take-append-add, drop-append-add, take-nil, drop-nil, getD-append-add}
+use lib.Seq.{set-append-left}
 use Rattle.rules.specs.Numbers.{largest}
+use Rattle.rules.specs.Shares.{each}
 use Rattle.rules.specs.Standard.{H0}
 use Rattle.rules.specs.Sha1.{public, publics, used, chainOf}
-use Rattle.rules.proofs.Loops.{times-suc}
+use Rattle.rules.specs.Hmac.{marked}
+use Rattle.rules.proofs.Openings.{each-append}
+use Rattle.rules.proofs.Keys.{each-zeros}
 use Rattle.sha1.proofs.Parts.{zeros-after}
 
 -- word w of m has its place
@@ -20,59 +26,79 @@ place-room m n w h = omega (arith, mul-le-mul-right n h, suc-mul w n)
 pub place-in : (m n w l : ℕ) → 0 < n → w < m → l ≡ m * n → w * n < l
 place-in m n w l some h e = omega (arith, place-room m n w h)
 
--- ---- public words, stored into zeros
 length-publics : (n : ℕ) (vs : List ℕ) → 0 < n → length (publics n vs) ≡ length vs * n
 unfolding publics public
 length-publics n [] h = sym (zero-mul n)
 length-publics n (v ∷ vs) h =
     rw (suc-mul (length vs) n) (simp (length-append, length-replicate, length-publics n vs h) (omega arith))
 
-publics-snoc : (n : ℕ) (s : List ℕ) (v : ℕ) → publics n (s ++ (v ∷ [])) ≡ publics n s ++ public n v
-unfolding publics
-publics-snoc n [] v = append-nil (public n v)
-publics-snoc n (a ∷ s) v =
-    ap (λ (t : List ℕ). public n a ++ t) (publics-snoc n s v) ∙ sym (append-assoc (public n a) (publics n s) (public n v))
-
--- the first word of zeros becomes a public word
-stored : (front : List ℕ) (n v at r : ℕ) → 0 < n → length front ≡ at
-    → set (front ++ replicate (n + r) 0) at v ≡ front ++ public n v ++ replicate r 0
-unfolding public
-stored front n v at r h e =
-    let q : n + r ≡ suc (n - 1 + r) = omega arith in
-    rw q
-    (set-at front 0 (replicate (n - 1 + r) 0) v at e
-    ∙ rw (← replicate-append-replicate {A = ℕ} (n - 1) r 0) (sym (append-assoc front (v ∷ replicate (n - 1) 0) (replicate r 0))))
-
--- so many words of vs shown, and zeros after them
-abbrev pub shown : ℕ → List ℕ → ℕ → List ℕ
-shown n vs w = publics n (take w vs) ++ replicate ((length vs - w) * n) 0
+-- ---- constants into share 1, as the code's loop marks them: from word i on
+unfoldable pub marking : ℕ → List ℕ → ℕ → List ℕ → List ℕ
+marking n [] i z = z
+marking n (v ∷ vs) i z = marking n vs (suc i) (set z (i * n) (bitXor (getD z (i * n) 0) v))
 
 module _ (n : ℕ) (vs z : List ℕ) where
-  pub publics-begins : (l : ℕ) → l ≡ length vs * n → z ≡ replicate l 0 → z ≡ shown n vs 0
-  unfolding publics
-  publics-begins l e p = p ∙ rw (sub-zero (length vs)) (ap (λ i. replicate i 0) e)
+  pub marking-begins : marking n (drop 0 vs) 0 z ≡ marking n vs 0 z
+  marking-begins = refl
 
-  pub publics-next : (w v : ℕ) (y : List ℕ) → 0 < n → w < length vs → v ≡ getD vs w 0 → y ≡ set z (w * n) v
-      → z ≡ shown n vs w → y ≡ shown n vs (w + 1)
-  publics-next w v y some h e f p =
-      let m = length vs in
-      let front = publics n (take w vs) in
-      let size : length front ≡ w * n = length-publics n (take w vs) some ∙ ap (λ i. i * n) (length-take-le w vs (omega arith)) in
-      let part : (m - w) * n ≡ n + (m - (w + 1)) * n = times-suc (m - w) (m - (w + 1)) n (omega arith) in
-      rw (f, p, part, e, add-one w, take-suc vs w 0 h, publics-snoc n (take w vs) (getD vs w 0))
-      (stored front n (getD vs w 0) (w * n) ((m - suc w) * n) some size)
+  pub marking-next : (w v : ℕ) (y e : List ℕ) → w < length vs → v ≡ getD vs w 0
+      → y ≡ set z (w * n) (bitXor (getD z (w * n) 0) v) → marking n (drop w vs) w z ≡ e → marking n (drop (w + 1) vs) (w + 1) y ≡ e
+  unfolding marking
+  marking-next w v y e h f g p = rw (g, f, add-one w) (rw (drop-cons vs w 0 h) at p)
 
-  pub publics-end : (w : ℕ) → length vs ≤ w → z ≡ shown n vs w → z ≡ publics n vs
-  publics-end w h p =
-      let none : length vs - w ≡ 0 = omega arith in
-      p ∙ rw (none, zero-mul n, take-all w vs h) (append-nil (publics n vs))
-
--- a part of public words is public words
+-- the words in front stay
 module _ (n : ℕ) (some : 0 < n) where
   length-public : (v : ℕ) → length (public n v) ≡ n
   unfolding public
   length-public v = omega (arith, length-replicate {A = ℕ} (n - 1) 0)
 
+  marking-later : (vs : List ℕ) (i : ℕ) (x s : List ℕ) → length x ≡ n → marking n vs (suc i) (x ++ s) ≡ x ++ marking n vs i s
+  unfolding marking
+  marking-later [] i x s h = refl
+  marking-later (v ∷ vs) i x s h =
+      let e : suc i * n ≡ length x + i * n = omega (arith, h, suc-mul i n) in
+      rw (e, getD-append-add x s (i * n) 0, set-later x s (i * n))
+      (marking-later vs (suc i) x (set s (i * n) (bitXor (getD s (i * n) 0) v)) h)
+    where
+      set-later : (x s : List ℕ) (i a : ℕ) → set (x ++ s) (length x + i) a ≡ x ++ set s i a
+      set-later [] s i a = rw zero-add
+      set-later (b ∷ x) s i a = rw (suc-add (length x) i) (ap (λ (l : List ℕ). b ∷ l) (set-later x s i a))
+
+  mark-one : (x : List ℕ) (v : ℕ) → length x ≡ n → set x 0 (bitXor (getD x 0 0) v) ≡ each bitXor x (public n v)
+  unfolding each public
+  mark-one [] v h = absurd (omega arith)
+  mark-one (a ∷ x) v h = ap (λ (l : List ℕ). bitXor a v ∷ l) (sym (each-zeros x (n - 1) (omega arith) .0))
+
+  marking-is : (vs z : List ℕ) → length z ≡ length vs * n → marking n vs 0 z ≡ marked n vs z
+  unfolding marking marked publics each
+  marking-is [] [] h = refl
+  marking-is [] (a ∷ z) h = absurd (omega (arith, zero-mul n))
+  marking-is (v ∷ vs) z h =
+      let x = take n z in
+      let s = drop n z in
+      let front : length x ≡ n = length-take-le n z (omega (arith, suc-mul (length vs) n)) in
+      let left : length s ≡ length vs * n = length-drop n z ∙ omega (arith, suc-mul (length vs) n) in
+      let y = set x 0 (bitXor (getD x 0 0) v) in
+      let one : set (x ++ s) 0 (bitXor (getD (x ++ s) 0 0) v) ≡ y ++ s =
+      rw (List·getD-append x s 0 0 (omega arith)) (set-append-left x s 0 (bitXor (getD x 0 0) v) (omega arith)) in
+      ap (λ t. marking n vs 1 (set t (0 * n) (bitXor (getD t (0 * n) 0) v))) (sym (take-append-drop n z))
+      ∙ rw (zero-mul n) (ap (marking n vs 1) one)
+      ∙ marking-later vs 0 y s (length-set x 0 _ ∙ front)
+      ∙ ap₂ (λ (a b : List ℕ). a ++ b) (mark-one x v front) (marking-is vs s left)
+      ∙ sym (each-append bitXor x (public n v) s (publics n vs) (length-public v ∙ sym front))
+      ∙ ap (λ t. each bitXor t (public n v ++ publics n vs)) (take-append-drop n z)
+
+  pub marking-end : (vs z e : List ℕ) (w : ℕ) → length vs ≤ w → length e ≡ length vs * n
+      → marking n (drop w vs) w z ≡ marking n vs 0 e → z ≡ marked n vs e
+  unfolding marking
+  marking-end vs z e w h l p = rw (drop-of-length-le vs h) at p ∙ marking-is vs e l
+
+  -- into zeros
+  pub published : (vs z y : List ℕ) (l : ℕ) → l ≡ length vs * n → z ≡ replicate l 0 → y ≡ marked n vs z → y ≡ publics n vs
+  unfolding marked
+  published vs z y l e f g = g ∙ rw (f, e) (each-zeros (publics n vs) (length vs * n) (length-publics n vs some) .1)
+
+  -- a part of public words is public words
   publics-drop : (i : ℕ) (vs : List ℕ) → drop (i * n) (publics n vs) ≡ publics n (drop i vs)
   unfolding publics
   publics-drop zero vs = rw (zero-mul n)

@@ -1,21 +1,36 @@
 // The hash that HMAC is over: the chain that it starts from and its compression. The one crate that says which it is.
 ghost use mathlib.Core.Path.{_≡_};
 ghost use Prim.Native.Nat.{_+_, _*_, _≤_, _<_};
-ghost use lib.ListN.{length, set};
+ghost use lib.Bits.{bitXor};
+ghost use lib.ListN.{length, getD, set};
 ghost use Rattle.rules.specs.Numbers.{largest};
 ghost use Rattle.rules.specs.Sha1.{publics, used, chainOf};
+ghost use Rattle.rules.specs.Hmac.{marked};
 ghost use Rattle.hash.specs.Hash.{hash};
 use rules::CHAIN;
 use rules::CHAIN_WORDS;
 use rules::Chain;
 use sha1::Stepped;
 
-// The first share of word w becomes v.
-fn show_at(n: usize, w: usize, v: u32, z: &mut [u32])
+// A constant goes into share 1 of word w.
+fn mark_at(n: usize, w: usize, v: u32, z: &mut [u32])
     requires { ⌜ w * n < length (now z) ⌝ }
-    ensures { λ _. ⌜ now (z .exit) ≡ set (now (z .entry)) (w * n) v ⌝ }
+    ensures { λ _. ⌜ now (z .exit) ≡ set (now (z .entry)) (w * n) (bitXor (getD (now (z .entry)) (w * n) 0) v) ⌝ }
 {
-    z[w * n] = v;
+    let p = w * n;
+    z[p] = z[p] ^ v;
+}
+
+// Constants go into share 1, one for each word.
+pub fn mark(n: usize, values: &[u32], z: &mut [u32])
+    requires { ⌜ (0 < n) × (length (now z) ≡ length (now values) * n) ⌝ }
+    ensures { λ _. ⌜ now (z .exit) ≡ marked n (now (values .entry)) (now (z .entry)) ⌝ }
+{
+    let mut w = 0;
+    while w < values.len() {
+        mark_at(n, w, values[w], z);
+        w += 1;
+    }
 }
 
 // Public words into shares: z becomes (v, 0, …, 0) for each word v.
@@ -24,11 +39,7 @@ pub fn publish(n: usize, values: &[u32], z: &mut [u32])
     ensures { λ _. ⌜ now (z .exit) ≡ publics n (now (values .entry)) ⌝ }
 {
     masked_words::clear(z);
-    let mut w = 0;
-    while w < values.len() {
-        show_at(n, w, values[w], z);
-        w += 1;
-    }
+    mark(n, values, z);
 }
 
 // The chain that starts a hash.

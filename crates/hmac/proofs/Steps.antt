@@ -4,36 +4,26 @@ use mathlib.Core.Path.{_≡_, refl, sym, ap, _∙_}
 use mathlib.Core.List.{List, [], _∷_, _++_, append-nil}
 use native.Mathlib.Omega.{arith}
 use native.Mathlib.Nat.{add-mul, mul-comm, mul-assoc, sub-zero, zero-mul}
-use lib.Bits.{bitXor}
-use lib.ListN.{length, getD, set, take, drop, length-drop, drop-of-length-le}
+use lib.ListN.{length, take, drop, replicate, length-drop, drop-of-length-le}
 use lib.Seq.{take-at, drop-at, drop-drop}
 use Rattle.rules.specs.Hash.{bytesOf, numberOf, wordsOf, zeros, padding, allBytes, ending}
 use Rattle.rules.specs.Standard.{SHA1, H0}
 use Rattle.rules.specs.Sha1.{publics, openWords, used, chainOf}
 use Rattle.rules.specs.Hmac.{marked, blocks, digestPadding, hmacShares, hmacTag}
 use Rattle.rules.specs.Counts.{compressions}
-use Rattle.rules.proofs.Loops.{Run, parts-room, parts-end}
+use Rattle.rules.proofs.Loops.{Run}
 use Rattle.rules.proofs.Hashes.{ending-blocks}
 use Rattle.rules.proofs.Tags.{sha1-proper}
 use Rattle.hash.specs.Hash.{hash}
-use Rattle.hash.proofs.Publics.{place-room, start-used, publics-part}
+use Rattle.hash.proofs.Publics.{start-used, publics-part}
+use Rattle.hash.proofs.Blocks.{Left, blocks-next}
 use Rattle.padding.specs.Whole.{blocksIn}
 use Rattle.sha1.proofs.Parts.{used-lent}
 use Rattle.hmac.specs.Halves.{innerHash, outerHash}
 
--- ---- a constant in share 1 of each word
-module _ (n c : ℕ) (z e : List ℕ) where
-  pub mark-room : (w : ℕ) → 0 < n → w < 16 → length z ≡ 16 * n → w * n < length z
-  mark-room w some h l = omega (arith, place-room 16 n w h)
-
-  pub marked-next : (w : ℕ) (y : List ℕ) → w < 16 → y ≡ set z (w * n) (bitXor (getD z (w * n) 0) c)
-      → marked n c (16 - w) w z ≡ e → marked n c (16 - (w + 1)) (w + 1) y ≡ e
-  unfolding marked
-  marked-next w y h f p = let q : 16 - w ≡ suc (16 - (w + 1)) = omega arith in rw f (rw q at p)
-
-  pub marked-end : (w : ℕ) → 16 ≤ w → marked n c (16 - w) w z ≡ e → z ≡ e
-  unfolding marked
-  marked-end w h p = let q : 16 - w ≡ 0 = omega arith in rw q at p
+-- ---- a constant in share 1 of each word of a copy
+pub key-block-made : (n c : ℕ) (key z y : List ℕ) → z ≡ key → y ≡ marked n (replicate 16 c) z → y ≡ marked n (replicate 16 c) key
+key-block-made n c key z y e f = rw (← e) f
 
 pub public-made : (n : ℕ) (values v z : List ℕ) → v ≡ values → z ≡ publics n v → z ≡ publics n values
 public-made n values v z e f = rw (← e) f
@@ -43,8 +33,8 @@ public-room n l m e f = rw e f
 
 -- ---- one compression, of a block that was made so
 module _ (n : ℕ) (ws : List ℕ) (at : ℕ) where
-  pub key-made : (c : ℕ) (key : List ℕ) {s b : List ℕ} {o : Run} → 0 < n → s ≡ chainOf n (publics n H0) → b ≡ marked n c 16 0 key
-      → hash .compress n (used n s) b ws at ≡ o → hash .compress n (publics n H0) (marked n c 16 0 key) ws at ≡ o
+  pub key-made : (c : ℕ) (key : List ℕ) {s b : List ℕ} {o : Run} → 0 < n → s ≡ chainOf n (publics n H0) → b ≡ marked n (replicate 16 c) key
+      → hash .compress n (used n s) b ws at ≡ o → hash .compress n (publics n H0) (marked n (replicate 16 c) key) ws at ≡ o
   key-made c key h e f g = rw (← f, ← start-used n h, ← e) g
 
   pub digest-step-made : (h inner x : List ℕ) {b : List ℕ} {o : Run} → b ≡ take (5 * n - 0) inner ++ x
@@ -53,14 +43,14 @@ module _ (n : ℕ) (ws : List ℕ) (at : ℕ) where
 
   -- two steps, one after the other
   pub inner-made : (key text : List ℕ) {i : List ℕ} {p : ℕ} {o : Run}
-      → hash .compress n (publics n H0) (marked n 0x36363636 16 0 key) ws at ≡ (i, p)
+      → hash .compress n (publics n H0) (marked n (replicate 16 0x36363636) key) ws at ≡ (i, p)
       → blocks hash n (blocksIn (length text)) (publics n (ending (SHA1 32) 64 text)) i ws p ≡ o
       → innerHash hash n key text ws at ≡ o
   unfolding innerHash numberOf
   inner-made key text a b = rw (ending-blocks (SHA1 32) (sha1-proper 32) 1 64 refl text, a, b)
 
   pub outer-made : (key d : List ℕ) {g : List ℕ} {p : ℕ} {o : Run}
-      → hash .compress n (publics n H0) (marked n 0x5c5c5c5c 16 0 key) ws at ≡ (g, p)
+      → hash .compress n (publics n H0) (marked n (replicate 16 0x5c5c5c5c) key) ws at ≡ (g, p)
       → hash .compress n g (d ++ publics n (digestPadding (SHA1 32))) ws p ≡ o → outerHash hash n key d ws at ≡ o
   unfolding outerHash numberOf
   outer-made key d a b = rw (a, b)
@@ -70,41 +60,15 @@ module _ (n : ℕ) (ws : List ℕ) (at : ℕ) where
   unfolding hmacShares innerHash outerHash
   hmac-made key text a b = rw (a, b)
 
--- ---- the blocks of a text, one after the other: j of them done
-abbrev pub Left : ℕ → List ℕ → List ℕ → ℕ → ℕ → List ℕ → ℕ → Run
-Left n ws W count j g p = blocks hash n (count - j) (drop (j * (16 * n)) (publics n W)) g ws p
-
-module _ (n : ℕ) (ws W : List ℕ) (count : ℕ) (e : Run) where
-  pub blocks-next : (j p q : ℕ) (b g g1 : List ℕ) → 0 < n → j < count → hash .compress n g b ws p ≡ (g1, q)
-      → b ≡ publics n (take 16 (drop (16 * j) W)) → Left n ws W count j g p ≡ e → Left n ws W count (j + 1) g1 q ≡ e
-  unfolding blocks
-  blocks-next j p q b g g1 some l f made inv =
-      let m : count - j ≡ suc (count - (j + 1)) = omega arith in
-      let P = publics n W in
-      let place : 16 * j * n ≡ j * (16 * n) = ap (λ t. t * n) (mul-comm 16 j) ∙ mul-assoc j 16 n in
-      let block : publics n (take 16 (drop (16 * j) W)) ≡ take (16 * n) (drop (j * (16 * n)) P) =
-      sym (ap (λ t. take (16 * n) (drop t P)) (sym place) ∙ publics-part n some 16 (16 * j) W) in
-      let after : j * (16 * n) + 16 * n ≡ (j + 1) * (16 * n) = omega (arith, add-mul j 1 (16 * n)) in
-      let rest : drop (16 * n) (drop (j * (16 * n)) P) ≡ drop ((j + 1) * (16 * n)) P =
-      drop-drop (16 * n) (j * (16 * n)) P ∙ ap (λ t. drop t P) after in
-      let left = drop (16 * n) (drop (j * (16 * n)) P) in
-      rw (← rest) (sym (ap (λ (r : Run). blocks hash n (count - (j + 1)) left (r .0) ws (r .1))
-      (rw (made ∙ block) at f)) ∙ (rw m at inv))
-
-  pub blocks-begin : (m p : ℕ) (g : List ℕ) → count ≡ m → Left n ws W count 0 g p ≡ blocks hash n m (publics n W) g ws p
-  blocks-begin m p g f = rw (f, sub-zero m, zero-mul (16 * n))
-
-  pub blocks-end : (j p : ℕ) (g : List ℕ) → count ≤ j → Left n ws W count j g p ≡ e → e ≡ (g, p)
-  unfolding blocks
-  blocks-end j p g l inv = let m : count - j ≡ 0 = omega arith in sym (rw m at inv)
-
--- block j of so many, of d words each
-module _ (j d at p count m : ℕ) (same : count ≡ m) where
-  pub block-room : (have : ℕ) → j < count → p ≡ at + j * d → at + m * d ≤ have → p + d ≤ have
-  block-room have h e l = parts-room m j d at p have (omega arith) e l
-
-  pub block-place : count ≤ j → j ≤ count → p ≡ at + j * d → p ≡ at + m * d
-  block-place h l e = parts-end m j d at p (omega arith) (omega arith) e
+-- ---- one block more of a text
+pub text-next : (n : ℕ) (ws W : List ℕ) (count : ℕ) (e : Run) (j p q : ℕ) (b g g1 : List ℕ) → 0 < n → j < count
+    → hash .compress n g b ws p ≡ (g1, q) → b ≡ publics n (take 16 (drop (16 * j) W))
+    → Left n ws (publics n W) count j g p ≡ e → Left n ws (publics n W) count (j + 1) g1 q ≡ e
+text-next n ws W count e j p q b g g1 some l f made =
+    let place : 16 * j * n ≡ j * (16 * n) = ap (λ t. t * n) (mul-comm 16 j) ∙ mul-assoc j 16 n in
+    let block : publics n (take 16 (drop (16 * j) W)) ≡ take (16 * n) (drop (j * (16 * n)) (publics n W)) =
+    sym (ap (λ t. take (16 * n) (drop t (publics n W))) (sym place) ∙ publics-part n some 16 (16 * j) W) in
+    blocks-next n ws (publics n W) count e j p q b g g1 l f (made ∙ block)
 
 -- ---- the digest block: the inner digest d, stored in front of zeros or anything, and the padding x after it
 pub digest-made : (n : ℕ) (inner d x z : List ℕ) → length inner ≡ 5 * n → length z ≡ 16 * n → d ≡ inner

@@ -3,8 +3,7 @@
 ghost use mathlib.Core.Path.{_≡_};
 ghost use mathlib.Core.List.{_++_};
 ghost use Prim.Native.Nat.{_+_, _*_, _%_, _≤_, _<_};
-ghost use lib.Bits.{bitXor};
-ghost use lib.ListN.{length, getD, set, take, drop};
+ghost use lib.ListN.{length, take, drop, replicate};
 ghost use Rattle.rules.specs.Numbers.{largest};
 ghost use Rattle.rules.specs.Hash.{ending};
 ghost use Rattle.rules.specs.Sha1.{publics, used};
@@ -13,6 +12,7 @@ ghost use Rattle.rules.specs.Counts.{hmacDraws};
 ghost use Rattle.hash.specs.Hash.{hash};
 ghost use Rattle.padding.specs.Whole.{Hashable, blocksIn};
 ghost use Rattle.hmac.specs.Halves.{innerHash, outerHash};
+use hash::mark;
 use hash::publish;
 use padding::block_words;
 use padding::blocks_in;
@@ -28,26 +28,13 @@ pub const INNER: u32 = 0x36363636;
 
 pub const OUTER: u32 = 0x5c5c5c5c;
 
-// A constant goes into share 1 of word w.
-fn mark_at(n: usize, c: u32, w: usize, z: &mut [u32])
-    requires { ⌜ w * n < length (now z) ⌝ }
-    ensures { λ _. ⌜ now (z .exit) ≡ set (now (z .entry)) (w * n) (bitXor (getD (now (z .entry)) (w * n) 0) c) ⌝ }
-{
-    let p = w * n;
-    z[p] = z[p] ^ c;
-}
-
 // The key block: z becomes the key with a constant in share 1 of each word.
 fn key_block(n: usize, c: u32, key: &[u32], z: &mut [u32])
     requires { ⌜ (0 < n) × (length (now key) ≡ 16 * n) × (length (now z) ≡ 16 * n) ⌝ }
-    ensures { λ _. ⌜ now (z .exit) ≡ marked n c 16 0 (now (key .entry)) ⌝ }
+    ensures { λ _. ⌜ now (z .exit) ≡ marked n (replicate 16 c) (now (key .entry)) ⌝ }
 {
     shares::copy(key, z);
-    let mut w: usize = 0;
-    while w < BLOCK_WORDS {
-        mark_at(n, c, w, z);
-        w += 1;
-    }
+    mark(n, &[c; BLOCK_WORDS], z);
 }
 
 // The key, marked with a constant, into the chain that starts a hash, from the word at `at` on. `block` is room for
@@ -62,7 +49,7 @@ pub fn key_step(
 ) -> Stepped
     requires { ⌜ (0 < n) × (n ≤ largest) × (length (now key) ≡ 16 * n) × (length (now block) ≡ 16 * n)
         × (at + hash .draws n ≤ length (now words)) ⌝ }
-    ensures { λ r. ⌜ (hash .compress n (publics n (hash .standard .start)) (marked n c 16 0 (now (key .entry))) (now (words .entry)) at
+    ensures { λ r. ⌜ (hash .compress n (publics n (hash .standard .start)) (marked n (replicate 16 c) (now (key .entry))) (now (words .entry)) at
         ≡ (used n (r .chain .shares), r .at))
         × (r .at ≡ at + hash .draws n) ⌝ }
 {

@@ -1,15 +1,17 @@
 -- The bytes and words of a text with its padding, by place.
 use Prim.Native.Nat.{ℕ, zero, suc, _+_, _-_, _*_, _/_, _%_, _^_, _≤_, _<_}
-use mathlib.Core.Path.{_≡_, refl, sym, ap, _∙_}
-use mathlib.Core.List.{List, _++_}
+use mathlib.Core.Path.{_≡_, refl, sym, ap, ap₂, _∙_}
+use mathlib.Core.List.{List, _++_, append-assoc}
+use native.Mathlib.Nat.{zero-add}
 use native.Mathlib.Omega.{arith}
 use lib.ListN.{length, getD, set, take, drop, replicate, length-drop, length-replicate, List·getD-append}
-use lib.Seq.{getD-append-add, getD-take, getD-drop, length-take-le}
-use Rattle.words.proofs.Stores.{filled-next, filled-end}
+use lib.ListN.{replicate-append-replicate}
+use lib.Seq.{getD-append-add, getD-take, getD-drop, length-take-le, take-at, drop-at, drop-append-add}
+use Rattle.words.proofs.Stores.{filled-next, filled-end, lent-zeros}
 use Rattle.rules.specs.Hash.{Hash, bytesOf, numberOf, wordsOf, zeros, padding, ended, ending}
 use Rattle.rules.specs.Standard.{SHA1}
-use Rattle.rules.proofs.Bytes.{pow-bytes, byte-of}
-use Rattle.rules.proofs.Hashes.{ended-length, ending-length}
+use Rattle.rules.proofs.Bytes.{pow-bytes, byte-of, words-alike, number-zeros}
+use Rattle.rules.proofs.Hashes.{ended-length, ending-length, ending-front}
 use Rattle.rules.proofs.Tags.{sha1-proper}
 use Rattle.padding.specs.Whole.{blocksIn}
 
@@ -132,3 +134,52 @@ module _ (before : ℕ) (text : List ℕ) (aligned : before % 64 ≡ 0) where
 
     pub block-end : length z ≤ w → take w z ≡ take w block → z ≡ block
     block-end h p = filled-end z block w (omega (arith, length-block)) (room ∙ sym length-block) p
+
+-- ---- the padding after l bytes that are 0: whole blocks of zeros, then the rest
+module _ (l j : ℕ) where
+  abbrev full : ℕ
+  full = l / 64
+
+  abbrev all : List ℕ
+  all = ending H 0 (replicate l 0)
+
+  abbrev last : List ℕ
+  last = ending H (full * 64) (replicate (l % 64) 0)
+
+  parts : all ≡ replicate (full * 16) 0 ++ last
+  parts =
+      let front : full * 16 * 4 ≡ full * 64 = omega arith in
+      let whole : l ≡ full * 64 + l % 64 = omega arith in
+      let zero-words : wordsOf 4 (full * 16) (replicate (full * 64) 0) ≡ replicate (full * 16) 0 =
+      rw front at (words-alike 0 4 (full * 16)) ∙ ap (replicate (full * 16)) (number-zeros 4 4) in
+      ap (λ t. ending H 0 (replicate t 0)) whole
+      ∙ ap (ending H 0) (sym (replicate-append-replicate {A = ℕ} (full * 64) (l % 64) 0))
+      ∙ ending-front H (sha1-proper 32) full 0 (replicate (full * 64) 0) (replicate (l % 64) 0) (length-replicate {A = ℕ} (full * 64) 0)
+      ∙ ap₂ (λ x t. x ++ ending H t (replicate (l % 64) 0)) zero-words (zero-add (full * 64))
+
+  pub pad-full : (m : ℕ) (z : List ℕ) → j < full → m ≡ 16 → z ≡ replicate m 0 → z ≡ take 16 (drop (16 * j) all)
+  pad-full m z h e f =
+      let left = full * 16 - 16 * j - 16 in
+      let x : List ℕ = replicate (16 * j) 0 in
+      let y : List ℕ = replicate 16 0 in
+      let rest : List ℕ = replicate left 0 ++ last in
+      let many : full * 16 ≡ 16 * j + (16 + left) = omega arith in
+      let cut : all ≡ x ++ (y ++ rest) =
+      parts
+      ∙ ap (λ (t : List ℕ). t ++ last)
+      (ap (λ i. replicate i 0) many
+      ∙ sym (replicate-append-replicate {A = ℕ} (16 * j) (16 + left) 0)
+      ∙ ap (λ (t : List ℕ). x ++ t) (sym (replicate-append-replicate {A = ℕ} 16 left 0)))
+      ∙ append-assoc x (y ++ replicate left 0) last
+      ∙ ap (λ (t : List ℕ). x ++ t) (append-assoc y (replicate left 0) last) in
+      f ∙ rw e (sym (ap (λ t. take 16 (drop (16 * j) t)) cut
+      ∙ ap (take 16) (drop-at x (y ++ rest) (16 * j) (length-replicate {A = ℕ} (16 * j) 0))
+      ∙ take-at y rest 16 refl))
+
+  pub pad-last : (z : List ℕ) → full ≤ j → z ≡ take 16 (drop (16 * (j - full)) (ending H (full * 64) (take {A = ℕ} (l % 64 - 0) (replicate 64 0))))
+      → z ≡ take 16 (drop (16 * j) all)
+  pad-last z h f =
+      let x : List ℕ = replicate (full * 16) 0 in
+      let place : 16 * j ≡ length x + 16 * (j - full) = omega (arith, length-replicate {A = ℕ} (full * 16) 0) in
+      f ∙ ap (λ t. take 16 (drop (16 * (j - full)) (ending H (full * 64) t))) (lent-zeros 64 (l % 64) (omega arith))
+      ∙ sym (ap₂ (λ i t. take 16 (drop i t)) place parts ∙ ap (take 16) (drop-append-add x last (16 * (j - full))))

@@ -2,7 +2,7 @@
 // block by block, as public values.
 ghost use mathlib.Core.Path.{_≡_};
 ghost use Prim.Native.Nat.{_+_, _*_, _/_, _%_, _^_, _<_};
-ghost use lib.ListN.{length, getD, take, drop};
+ghost use lib.ListN.{length, getD, take, drop, replicate};
 ghost use Rattle.rules.specs.Hash.{ended, ending};
 ghost use Rattle.hash.specs.Hash.{hash};
 ghost use Rattle.padding.specs.Whole.{Hashable, blocksIn};
@@ -77,4 +77,20 @@ pub fn block_words(before: usize, text: &[u8], j: usize, z: &mut [u32])
         z[w] = word_at(before, text, BLOCK_WORDS * j + w);
         w += 1;
     }
+}
+
+// Block j of the padding after so many bytes that stand elsewhere, as 16 words: 0 where they stand.
+pub fn padding_words(bytes: usize, j: usize, z: &mut [u32])
+    requires { ⌜ Hashable bytes × (j < blocksIn bytes) × (length (now z) ≡ 16) ⌝ }
+    ensures { λ _. ⌜ now (z .exit) ≡ take 16 (drop (16 * j) (ending (hash .standard) 0 (replicate bytes 0))) ⌝ }
+{
+    let full = bytes / BLOCK_BYTES;
+    if j < full {
+        masked_words::clear(z);
+        return;
+    }
+    let left = bytes % BLOCK_BYTES;
+    let none = [0u8; BLOCK_BYTES];
+    let rest = &none[0..left];
+    block_words(full * BLOCK_BYTES, rest, j - full, z);
 }

@@ -57,7 +57,7 @@ words-filled size m t b h l =
     ∙ rw all at split))
 
 -- XOR with zeros
-each-zeros : (x : List ℕ) (r : ℕ) → length x ≡ r → (each bitXor x (replicate r 0) ≡ x) × (each bitXor (replicate r 0) x ≡ x)
+pub each-zeros : (x : List ℕ) (r : ℕ) → length x ≡ r → (each bitXor x (replicate r 0) ≡ x) × (each bitXor (replicate r 0) x ≡ x)
 unfolding each
 each-zeros [] r h = let q : r ≡ 0 = omega arith in rw q (refl, refl)
 each-zeros (a ∷ x) zero h = absurd (omega arith)

@@ -5,7 +5,7 @@
 pub const LARGEST: usize = 8;
 
 // The longest key given for splitting, and the longest message, in bytes.
-pub const LONGEST_KEY: usize = 64;
+pub const LONGEST_KEY: usize = 1024;
 
 pub const LONGEST_MESSAGE: usize = 4096;
 
@@ -25,7 +25,9 @@ pub const LENGTH_BYTES: usize = 8;
 
 pub const TAG_BYTES: usize = CHAIN_WORDS * WORD_BYTES;
 
-// Room for a chain and for a block at the largest share count.
+// Room for the words of the longest key; and for a chain and a block at the largest share count.
+pub const KEY: usize = LONGEST_KEY / WORD_BYTES;
+
 pub const CHAIN: usize = CHAIN_WORDS * LARGEST;
 
 pub const BLOCK: usize = BLOCK_WORDS * LARGEST;

@@ -6,7 +6,7 @@ use lib.Dec.{leb}
 use lib.ListN.{take, drop}
 use Rattle.words.specs.Word.{Width}
 use Rattle.rules.specs.Supply.{Count, Sharing}
-use Rattle.rules.specs.Convert.{choose}
+use Rattle.rules.specs.Numbers.{choose}
 use Rattle.rules.specs.Sha1.{word, following}
 
 -- what the window holds at round t: words t to t + 15 of the schedule, as far as it has them

@@ -21,8 +21,8 @@ use Rattle.states.proofs.Tails.{tail-size}
 
 -- ---- a state after both key blocks
 pub start-made : (n : ℕ) (key ws : List ℕ) (at p q : ℕ) (i o : Chain) (s : State)
-    → hash .compress n (publics n H0) (marked n 0x36363636 16 0 key) ws at ≡ (used n (i .shares), p)
-    → hash .compress n (publics n H0) (marked n 0x5c5c5c5c 16 0 key) ws p ≡ (used n (o .shares), q)
+    → hash .compress n (publics n H0) (marked n (replicate 16 0x36363636) key) ws at ≡ (used n (i .shares), p)
+    → hash .compress n (publics n H0) (marked n (replicate 16 0x5c5c5c5c) key) ws p ≡ (used n (o .shares), q)
     → s ≡ record {
       n = n;
       bytes = 0;

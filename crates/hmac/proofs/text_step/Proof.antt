@@ -8,7 +8,8 @@ use Rattle.rules.specs.Sha1.{publics, used}
 use Rattle.rules.specs.Hmac.{blocks}
 use Rattle.hash.specs.Hash.{hash}
 use Rattle.padding.specs.Whole.{blocksIn}
-use Rattle.hmac.proofs.Steps.{Left, blocks-begin, blocks-next, blocks-end, block-room, block-place}
+use Rattle.hash.proofs.Blocks.{Left, blocks-begin, blocks-end, block-room, block-place}
+use Rattle.hmac.proofs.Steps.{text-next}
 use Rattle.hmac.proofs.text_step.Statement.{statement}
 use Rattle.hmac.proofs.text_step.Tie as tie
 
@@ -16,7 +17,7 @@ abbrev Inv-loop : tie.InvT-loop
 Inv-loop n before text block₀ words at count c₀ p₀ j₀ block c p j =
     let W = ending (hash .standard) before text in
     (j ≤ count) × (length block ≡ 16 * n) × (count ≡ blocksIn (length text)) × (p ≡ at + j * hash .draws n)
-    × (Left n words W count j (used n (c .shares)) p ≡ blocks hash n (blocksIn (length text)) (publics n W) (used n (c₀ .shares)) words at)
+    × (Left n words (publics n W) count j (used n (c .shares)) p ≡ blocks hash n (blocksIn (length text)) (publics n W) (used n (c₀ .shares)) words at)
 
 abbrev μ-loop : tie.MeasureT-loop
 μ-loop n before text block₀ words at count c₀ p₀ j₀ block c p j = count - j
@@ -33,6 +34,6 @@ text-step-spec =
     (λ c κs. (search needs, search needs, search needs, search block-room))
     (λ c. search needs)
     (λ c. search needs)
-    (λ c. (search needs, search needs, search needs, search needs, search blocks-next))
+    (λ c. (search needs, search needs, search needs, search needs, search text-next))
     (λ c. search needs)
     (λ c. (search blocks-end, search block-place)))
