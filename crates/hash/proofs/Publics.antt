@@ -26,6 +26,10 @@ place-room m n w h = omega (arith, mul-le-mul-right n h, suc-mul w n)
 pub place-in : (m n w l : ℕ) → 0 < n → w < m → l ≡ m * n → w * n < l
 place-in m n w l some h e = omega (arith, place-room m n w h)
 
+-- sixteen words have room in a block
+pub public-room : (n l m : ℕ) → l ≡ 16 → m ≡ 16 * n → m ≡ l * n
+public-room n l m e f = rw e f
+
 length-publics : (n : ℕ) (vs : List ℕ) → 0 < n → length (publics n vs) ≡ length vs * n
 unfolding publics public
 length-publics n [] h = sym (zero-mul n)

@@ -28,9 +28,6 @@ key-block-made n c key z y e f = rw (← e) f
 pub public-made : (n : ℕ) (values v z : List ℕ) → v ≡ values → z ≡ publics n v → z ≡ publics n values
 public-made n values v z e f = rw (← e) f
 
-pub public-room : (n l m : ℕ) → l ≡ 16 → m ≡ 16 * n → m ≡ l * n
-public-room n l m e f = rw e f
-
 -- ---- one compression, of a block that was made so
 module _ (n : ℕ) (ws : List ℕ) (at : ℕ) where
   pub key-made : (c : ℕ) (key : List ℕ) {s b : List ℕ} {o : Run} → 0 < n → s ≡ chainOf n (publics n H0) → b ≡ marked n (replicate 16 c) key

@@ -73,7 +73,7 @@ module _ (before : ℕ) (text : List ℕ) (i : ℕ) where
       ∙ byte-of 8 bits p j (omega arith))
 
 -- ---- word i of bytes
-word-of : (m : ℕ) (bs : List ℕ) (i : ℕ) → i < m
+pub word-of : (m : ℕ) (bs : List ℕ) (i : ℕ) → i < m
     → getD (wordsOf 4 m bs) i 0
     ≡ ((getD bs (4 * i) 0 * 256 + getD bs (4 * i + 1) 0) * 256 + getD bs (4 * i + 2) 0) * 256 + getD bs (4 * i + 3) 0
 unfolding wordsOf numberOf

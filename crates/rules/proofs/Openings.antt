@@ -5,7 +5,7 @@ use mathlib.Core.List.{List, [], _∷_, _++_}
 use native.Mathlib.Numerals.{add-one}
 use native.Mathlib.Omega.{arith}
 use lib.Bits.{bitXor, xor-lt}
-use lib.ListN.{length, getD, set, drop, replicate, drop-of-length-le}
+use lib.ListN.{length, getD, set, take, drop, replicate, drop-of-length-le}
 use lib.Pow.{pow-pos}
 use lib.Seq.{drop-cons, drop-nil}
 use Rattle.words.specs.Word.{double}
@@ -87,6 +87,13 @@ module _ (f : ℕ → ℕ → ℕ) where
       none [] = refl
       none (a ∷ x) = refl
   each-drop (suc i) (a ∷ x) (b ∷ y) = each-drop i x y
+
+  pub each-take : (i : ℕ) (x y : List ℕ) → take i (each f x y) ≡ each f (take i x) (take i y)
+  unfolding each
+  each-take zero x y = refl
+  each-take (suc i) [] y = refl
+  each-take (suc i) (a ∷ x) [] = refl
+  each-take (suc i) (a ∷ x) (b ∷ y) = ap (λ (l : List ℕ). f a b ∷ l) (each-take i x y)
 
   pub each-append : (x y s t : List ℕ) → length y ≡ length x → each f (x ++ s) (y ++ t) ≡ each f x y ++ each f s t
   unfolding each

@@ -1,6 +1,7 @@
 -- the words of the block, made public
 use borrow.Author.Needs.{needs}
-use Rattle.hmac.proofs.Steps.{public-made, public-room}
+use Rattle.hash.proofs.Publics.{public-room}
+use Rattle.hmac.proofs.Steps.{public-made}
 use Rattle.hmac.proofs.public_block.Statement.{statement}
 use Rattle.hmac.proofs.public_block.Tie as tie
 

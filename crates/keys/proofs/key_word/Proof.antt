@@ -1,6 +1,6 @@
--- four bytes of the padded key, the first one highest
+-- four bytes of the key, the first one highest
 use borrow.Author.Needs.{needs}
-use Rattle.padding.proofs.Padded.{word-made}
+use Rattle.keys.proofs.Split.{number-made}
 use Rattle.keys.proofs.key_word.Statement.{statement}
 use Rattle.keys.proofs.key_word.Tie as tie
 
@@ -17,4 +17,4 @@ key-word-spec =
     (λ c. search needs)
     (λ c κs. search needs)
     (λ c κs. search needs)
-    (λ c. search word-made))
+    (λ c. search number-made))

@@ -1,6 +1,6 @@
 -- the part of word w holds the shares of its value
 use borrow.Author.Needs.{needs}
-use Rattle.keys.proofs.Split.{part-length, part-put, part-place}
+use Rattle.keys.proofs.Split.{part-length, split-put, split-place}
 use Rattle.keys.proofs.split_word.Statement.{statement}
 use Rattle.keys.proofs.split_word.Tie as tie
 
@@ -21,4 +21,4 @@ split-word-spec =
     (λ c. search needs)
     split-at-requires
     (λ c. search needs)
-    (λ c. (search part-put, search part-place)))
+    (λ c. (search split-put, search split-place)))

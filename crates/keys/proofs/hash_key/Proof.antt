@@ -1,0 +1,44 @@
+-- the blocks that are left, from here on, give what all of them give from the start
+use borrow.Author.Needs.{needs}
+use Prim.Native.Nat.{_+_, _-_, _*_, _≤_}
+use mathlib.Core.Path.{_≡_}
+use lib.ListN.{length}
+use Rattle.rules.specs.Sha1.{publics, used}
+use Rattle.rules.specs.Hmac.{blocks}
+use Rattle.hash.specs.Hash.{hash}
+use Rattle.hash.proofs.Blocks.{Left, blocks-next, blocks-end, block-room}
+use Rattle.padding.specs.Whole.{blocksIn}
+use Rattle.keys.specs.Held.{held, padded}
+use Rattle.keys.proofs.Held.{hash-begins}
+use Rattle.keys.proofs.hash_key.Statement.{statement}
+use Rattle.keys.proofs.hash_key.Tie as tie
+
+abbrev Inv-loop : tie.InvT-loop
+Inv-loop n bytes lasts words at p end block₀ count c₀ q₀ j₀ block c q j =
+    let W = padded n bytes (held n lasts words at) in
+    (j ≤ count) × (length block ≡ 16 * n) × (count ≡ blocksIn bytes) × (q ≡ p + j * hash .draws n)
+    × (Left n words W count j (used n (c .shares)) q
+    ≡ blocks hash n (blocksIn bytes) W (publics n (hash .standard .start)) words p)
+
+abbrev μ-loop : tie.MeasureT-loop
+μ-loop n bytes lasts words at p end block₀ count c₀ q₀ j₀ block c q j = count - j
+
+pub hash-key-spec : {M : Type 1} → statement M
+hash-key-spec =
+    tie.close
+    (tie.spec
+    Inv-loop
+    μ-loop
+    (λ c. search needs)
+    (λ c. search needs)
+    (λ c. search needs)
+    (λ c. search needs)
+    (λ c κs. search needs)
+    (λ c κs. search needs)
+    (λ c. (search needs, search needs, search needs, search needs, search hash-begins))
+    (λ c κs. search needs)
+    (λ c κs. (search needs, search needs, search needs, search block-room))
+    (λ c. search needs)
+    (λ c. search needs)
+    (λ c. (search needs, search needs, search needs, search needs, search blocks-next))
+    (λ c. search blocks-end))
