@@ -1,5 +1,5 @@
 -- What queries tell: by the share count, by a text, and of so many compressions.
-use Prim.Native.Nat.{ℕ, zero, suc, _-_, _*_, _^_, _≤_, _<_}
+use Prim.Native.Nat.{ℕ, zero, suc, _+_, _-_, _*_, _/_, _^_, _≤_, _<_}
 use mathlib.Core.Path.{_≡_, refl, sym, ap, _∙_}
 use mathlib.Core.Bool.{Bool, true, false}
 use mathlib.Core.List.{List, [], _∷_}
@@ -7,12 +7,13 @@ use native.Mathlib.Nat.{mul-zero, mul-le-mul}
 use native.Mathlib.Omega.{arith}
 use lib.Dec.{eqb}
 use Rattle.rules.specs.declared.Answer.{Answer}
-use Rattle.rules.specs.Numbers.{choose, either, allowed, Test, test, first, settled, told}
-use Rattle.rules.specs.Counts.{compressDraws}
+use borrow.Author.Tests.{le-leb, lt-leb}
+use Rattle.rules.specs.Numbers.{longestKey, choose, either, allowed, Test, test, first, settled, told}
+use Rattle.rules.specs.Counts.{compressDraws, keyDraws, sha1}
 use Rattle.rules.specs.Calls.{query}
 use Rattle.rules.proofs.Calls.{settled-refused, tells}
 use Rattle.rules.proofs.Sizes.{compress-count}
-use Rattle.rules.proofs.Allowed.{Taken, one, two, four, eight, counted}
+use Rattle.rules.proofs.Allowed.{Taken, one, two, four, eight, counted, few}
 use Rattle.counts.specs.Queries.{byCount, byText}
 
 told-count : (n d : ℕ) → told (test 1 (allowed n) ∷ []) d ≡ choose (allowed n) d 0
@@ -134,3 +135,29 @@ module _ (n : ℕ) (each : Answer) (e : query (test 1 (allowed n) ∷ []) (compr
   -- so many of them fit into 64 bits
   pub compressions-fit : (m : ℕ) → m ≤ 68 → m * each .drawn < 2 ^ 64
   compressions-fit m h = omega (arith, mul-le-mul h compress-below)
+
+-- ---- splitting a key of l bytes, with n shares
+module _ (n l : ℕ) (count : allowed n ≡ true) (short : l ≤ longestKey) where
+  abbrev blocks : ℕ
+  blocks = (l + 8) / 64 + 1
+
+  pub key-product : (l + 3) / 4 * (n - 1) ≤ 1792
+  key-product =
+      let most-words : (l + 3) / 4 ≤ 256 = omega arith in
+      let most-each : n - 1 ≤ 7 = omega (arith, few n count) in
+      mul-le-mul most-words most-each
+
+  pub key-sum : (hashed : ℕ) → hashed ≡ blocks * compressDraws 32 n → (l + 3) / 4 * (n - 1) + hashed < 2 ^ 64
+  key-sum hashed e =
+      let each : n - 1 ≤ 7 = omega (arith, few n count) in
+      let pairs : n * (n - 1) ≤ 56 = mul-le-mul (few n count) each in
+      let one : compressDraws 32 n ≤ most = rw (compress-count n) (omega (arith, pairs)) in
+      let some-blocks : blocks ≤ 17 = omega arith in
+      omega (arith, key-product, mul-le-mul some-blocks one)
+
+  pub short-draws : l ≤ 64 → 16 * (n - 1) ≡ keyDraws (sha1 32) n l
+  short-draws h = rw (le-leb l 64 h)
+
+  pub long-draws : (hashed : ℕ) → 64 < l → hashed ≡ blocks * compressDraws 32 n
+      → (l + 3) / 4 * (n - 1) + hashed ≡ keyDraws (sha1 32) n l
+  long-draws hashed h e = rw (lt-leb l 64 h, e)

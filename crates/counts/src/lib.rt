@@ -9,7 +9,7 @@ ghost use Rattle.width.specs.Width.{bits};
 ghost use Rattle.rules.specs.Numbers.{longestKey, longestMessage, choose, allowed, fit, test, first};
 ghost use Rattle.rules.specs.Standard.{SHA1};
 ghost use Rattle.rules.specs.Counts.{refreshDraws, andDraws, addDraws, toBoolDraws, toArithDraws};
-ghost use Rattle.rules.specs.Counts.{compressDraws, compressions, hmacDraws, startDraws, feedDraws, finishDraws, sha1};
+ghost use Rattle.rules.specs.Counts.{compressDraws, compressions, keyDraws, hmacDraws, startDraws, feedDraws, finishDraws, sha1};
 ghost use Rattle.rules.specs.Calls.{query};
 ghost use Rattle.counts.specs.Queries.{byCount, byText};
 use numbers::DONE;
@@ -19,13 +19,15 @@ use numbers::answer;
 use numbers::fitness;
 use numbers::growth;
 use numbers::is_allowed;
+use numbers::key_fitness;
 use numbers::tested;
 use rules::Answer;
 use rules::BLOCK_BYTES;
+use rules::BLOCK_WORDS;
 use rules::LARGEST;
 use rules::LENGTH_BYTES;
-use rules::LONGEST_KEY;
 use rules::LONGEST_MESSAGE;
+use rules::WORD_BYTES;
 use width::BITS;
 
 fn choose(asked: bool, a: usize, b: usize) -> usize
@@ -101,13 +103,6 @@ pub fn b2a_words(n: usize) -> Answer
     by_count(n, 68, 462, 2342)
 }
 
-// Splitting a key of so many bytes: 16(n − 1).
-pub fn key_words(n: usize, key: usize) -> Answer
-    ensures { λ r. ⌜ query (test 1 (allowed n) ∷ test 4 (leb key longestKey) ∷ []) (16 * (n - 1)) ≡ r ⌝ }
-{
-    by_text(by_count(n, 16, 48, 112), key <= LONGEST_KEY)
-}
-
 // One compression: 5,220n(n − 1).
 pub fn compress_words(n: usize) -> Answer
     ensures { λ r. ⌜ query (test 1 (allowed n) ∷ []) (compressDraws 32 n) ≡ r ⌝ }
@@ -134,7 +129,7 @@ pub fn hmac_words(n: usize, message: usize) -> Answer
     by_text(all, message <= LONGEST_MESSAGE)
 }
 
-// ---- streaming
+// ---- keys and streaming
 
 // Both key blocks.
 pub fn start_words(n: usize) -> Answer
@@ -150,6 +145,30 @@ fn compressions_words(count: usize, n: usize) -> usize
     ensures { λ r. ⌜ r ≡ count * compressDraws 32 n ⌝ }
 {
     count * compress_words(n).drawn
+}
+
+// The words of a key of so many bytes, n − 1 for each; where it is over one block, then the compressions that hash it.
+fn key_draws(n: usize, key: usize) -> usize
+    requires { ⌜ (allowed n ≡ true) × (key ≤ longestKey) ⌝ }
+    ensures { λ r. ⌜ r ≡ keyDraws (sha1 32) n key ⌝ }
+{
+    if key <= BLOCK_BYTES {
+        return BLOCK_WORDS * (n - 1);
+    }
+    let words = (key + (WORD_BYTES - 1)) / WORD_BYTES;
+    let blocks = (key + LENGTH_BYTES) / BLOCK_BYTES + 1;
+    words * (n - 1) + compressions_words(blocks, n)
+}
+
+// Splitting a key of so many bytes.
+pub fn key_words(n: usize, key: usize) -> Answer
+    ensures { λ r. ⌜ query (test 1 (allowed n) ∷ test 4 (leb key longestKey) ∷ []) (keyDraws (sha1 32) n key) ≡ r ⌝ }
+{
+    let number = key_fitness(n, key);
+    if number != DONE {
+        return answer(number, 0);
+    }
+    answer(DONE, key_draws(n, key))
 }
 
 // The blocks that a piece of so many bytes fills.

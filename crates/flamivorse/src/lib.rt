@@ -221,7 +221,7 @@ pub extern "C" fn flamivorse_b2a(n: usize, x: &[u32], a: &mut [u32], words: &[u3
 
 // ---- SHA-1 and HMAC
 
-// A key of at most 64 bytes into shares: 16n words.
+// A key of at most 1,024 bytes into shares: 16n words. One over 64 bytes is hashed, in shares.
 #[no_mangle]
 pub extern "C" fn flamivorse_split_key(
     n: usize,
@@ -229,7 +229,7 @@ pub extern "C" fn flamivorse_split_key(
     shares: &mut [u32],
     words: &[u32],
 ) -> Answer
-    ensures { λ r. ⌜ splitKeyCall n (now (key .entry)) (now (shares .entry)) (now (words .entry)) ≡ (r, now (shares .exit)) ⌝ }
+    ensures { λ r. ⌜ splitKeyCall 32 n (now (key .entry)) (now (shares .entry)) (now (words .entry)) ≡ (r, now (shares .exit)) ⌝ }
 {
     let need = key_words(n, key.len()).drawn;
     let number = key_splitting(n, shares.len(), key.len(), need, words.len());
@@ -403,7 +403,7 @@ pub extern "C" fn flamivorse_b2a_words(n: usize) -> Answer
 
 #[no_mangle]
 pub extern "C" fn flamivorse_split_key_words(n: usize, length: usize) -> Answer
-    ensures { λ r. ⌜ splitKeyWords n length ≡ r ⌝ }
+    ensures { λ r. ⌜ splitKeyWords 32 n length ≡ r ⌝ }
 {
     key_words(n, length)
 }

@@ -133,6 +133,10 @@ piece-ready n bytes finished all h =
     let p = passed _ h in
     (fits n bytes finished (holds _ _ (p .0)) .0, leb-true all longestMessage (holds _ _ (p .1 .0)))
 
+pub key-fits : (n l : ℕ) → first (test 1 (allowed n) ∷ test 4 (leb l longestKey) ∷ []) ≡ 0
+    → (allowed n ≡ true) × (l ≤ longestKey)
+key-fits n l h = let p = passed _ h in (holds _ _ (p .0), leb-true l longestKey (holds _ _ (p .1 .0)))
+
 -- a message that is not too long is far from what 64 bits can count
 pub short-text : (l : ℕ) → leb l longestMessage ≡ true → 64 + l < 2 ^ 60
 short-text l h = omega (arith, leb-true l longestMessage h)

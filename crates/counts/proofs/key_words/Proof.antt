@@ -1,21 +1,22 @@
--- a number for each share count, where the key is not too long
-use Prim.Native.Nat.{_-_, _*_}
-use mathlib.Core.Path.{refl, ap, _∙_}
+-- refused, or what the key draws
+use mathlib.Core.Path.{sym, _∙_}
 use borrow.Author.Needs.{needs}
-use lib.Dec.{leb}
-use Rattle.rules.specs.declared.Answer.{Answer}
-use Rattle.rules.specs.Numbers.{longestKey}
-use Rattle.counts.specs.Queries.{byText}
-use Rattle.counts.proofs.Queries.{by-count, query-text}
+use Rattle.rules.proofs.Tested.{key-fits}
+use Rattle.counts.proofs.Queries.{query-refused, query-done}
 use Rattle.counts.proofs.key_words.Statement.{statement}
 use Rattle.counts.proofs.key_words.Tie as tie
 
 returns : tie.Need-returns
-returns c =
-    let a = c .before .before .args in
-    let told = by-count (λ n. 16 * (n - 1)) (a .n) 16 48 112 refl refl refl refl ∙ c .before .by-count .ensures in
-    query-text (a .n) (16 * (a .n - 1)) (leb (a .key) longestKey)
-    ∙ ap (λ (q : Answer). byText q (leb (a .key) longestKey)) told ∙ c .by-text .ensures
+returns c = query-refused _ _ _ (c .before .before .key-fitness .ensures) (c .before .if1 .taken) ∙ sym (c .answer .ensures)
+
+returns-2 : tie.Need-returns-2
+returns-2 c =
+    query-done _ _ _ _ (c .before .before .before .key-fitness .ensures) (c .before .before .if1 .left)
+    (c .before .key-draws .ensures)
+    ∙ sym (c .answer2 .ensures)
 
 pub key-words-spec : {M : Type 1} → statement M
-key-words-spec = tie.close (tie.spec (λ c κs. search needs) (λ c κs. search needs) returns)
+key-words-spec =
+    tie.close
+    (tie.spec (λ c κs. search needs) (λ c κs. search needs) returns
+    (λ c κs. key-fits _ _ (c .before .key-fitness .ensures ∙ c .if1 .left)) (λ c κs. search needs) returns-2)

@@ -7,7 +7,7 @@ use lib.ListN.{length, drop}
 use Rattle.rules.specs.Sha1.{used}
 use Rattle.rules.specs.Stream.{fullBlocks}
 use Rattle.hash.specs.Hash.{hash}
-use Rattle.hmac.proofs.Steps.{block-room}
+use Rattle.hash.proofs.Blocks.{block-room}
 use Rattle.feed.proofs.Steps.{full-begin, full-next, full-end}
 use Rattle.feed.proofs.full_blocks.Statement.{statement}
 use Rattle.feed.proofs.full_blocks.Tie as tie

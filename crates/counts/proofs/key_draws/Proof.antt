@@ -1,0 +1,24 @@
+-- the words of the key, and where it is over one block the compressions; sums and products fit
+use native.Mathlib.Omega.{arith}
+use borrow.Author.Needs.{needs}
+use Rattle.rules.proofs.Allowed.{some, few}
+use Rattle.counts.proofs.Queries.{key-product, key-sum, short-draws, long-draws}
+use Rattle.counts.proofs.key_draws.Statement.{statement}
+use Rattle.counts.proofs.key_draws.Tie as tie
+
+pub key-draws-spec : {M : Type 1} → statement M
+key-draws-spec =
+    tie.close
+    (tie.spec
+    (λ c. omega (arith, some _ (c .before .pre .0)))
+    (λ c. omega (arith, few _ (c .before .pre .0)))
+    (λ c. search (short-draws, needs))
+    (λ c. search needs)
+    (λ c. search needs)
+    (λ c. search needs)
+    (λ c. search needs)
+    (λ c. omega (arith, some _ (c .before .pre .0)))
+    (λ c. let s = c .before in record { fits = omega (arith, key-product (s .args .n) (s .args .key) (s .pre .0) (s .pre .1)) })
+    (λ c κs. search needs)
+    (λ c. record { fits = search key-sum })
+    (λ c. search (long-draws, needs)))

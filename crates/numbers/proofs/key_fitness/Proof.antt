@@ -1,0 +1,10 @@
+-- the tests, one after the other
+use borrow.Author.Needs.{needs}
+use Rattle.numbers.proofs.Tests.{first-from}
+use Rattle.numbers.proofs.key_fitness.Statement.{statement}
+use Rattle.numbers.proofs.key_fitness.Tie as tie
+
+pub key-fitness-spec : {M : Type 1} → statement M
+key-fitness-spec =
+    tie.close
+    (tie.spec (λ c κs. search needs) (λ c κs. search needs) (λ c κs. search needs) (λ c. rw first-from (cc)))
