@@ -1,7 +1,7 @@
 //! The public calls for n shares: the tests of section 3 in their order, then the rule. Every
 //! refusal reports 0 words drawn and leaves the output as it came.
 
-use crate::numbers::{first_refusal, Answer, Chain, Compressed, Opened, MESSAGE_LIMIT};
+use crate::numbers::{first_refusal, Answer, Chain, Compressed, Opened, KEY_LIMIT, MESSAGE_LIMIT};
 use crate::supply::Supply;
 use crate::{rules, sha1};
 
@@ -94,11 +94,12 @@ pub fn b2a(n: usize, x: &[u32], a: &mut [u32], words: &[u32]) -> Answer {
     call(n, &tests, a, words, |supply| rules::b2a(x, supply))
 }
 
-/// Splits a key of up to 64 bytes into 16n words (section 2). Tests 1, 3, 4, 5.
+/// Splits a key of up to 1,024 bytes into 16n words (section 2). One over 64 bytes is hashed too,
+/// "all within the splitting call, so number 5 counts both" (request (iii)). Tests 1, 3, 4, 5.
 pub fn split_key(n: usize, key: &[u8], shares: &mut [u32], words: &[u32]) -> Answer {
     let tests = [
         (3, shares.len() != n.saturating_mul(16)),
-        (4, key.len() > 64),
+        (4, key.len() > KEY_LIMIT),
     ];
     call(n, &tests, shares, words, |supply| {
         sha1::split_key(n, key, supply)

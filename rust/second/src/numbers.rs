@@ -4,6 +4,9 @@
 /// Section 3: a message has up to 4,096 bytes. Request (i): "The 4,096 limit counts all pieces".
 pub(crate) const MESSAGE_LIMIT: u64 = 4096;
 
+/// Request (iii): "Splitting accepts up to 1,024 bytes."
+pub(crate) const KEY_LIMIT: usize = 1024;
+
 /// What a call that takes a supply hands back, and what a query hands back.
 #[derive(Debug, Clone, Copy, PartialEq, Eq)]
 pub struct Answer {
@@ -102,7 +105,8 @@ fn first_that_applies(tests: &[(u32, bool)]) -> u32 {
 /// - 1, tested here for every call: the share count isn't 1, 2, 4 or 8;
 /// - 2: an input slice has not exactly the length that the count asks for;
 /// - 3: an output slice or record has not exactly its length;
-/// - 4: the message is over 4,096 bytes, or the key given for splitting is over 64.
+/// - 4: the message is over 4,096 bytes, or the key given for splitting is over 1,024 (request
+///   (iii): "Number 4 for keys now starts at 1,025").
 pub(crate) fn first_refusal(n: usize, tests: &[(u32, bool)]) -> u32 {
     if !allowed(n) {
         return 1;

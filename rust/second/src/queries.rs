@@ -1,9 +1,9 @@
 //! The queries: how many words a call will draw, by the formulas of sections 2, 5 and 6 and the
-//! words of request (i). Each gives number 0 and the count, or the call's refusal 1, 4 or 6 and
-//! the count 0.
+//! words of requests (i) and (iii). Each gives number 0 and the count, or the call's refusal 1, 4
+//! or 6 and the count 0.
 
 use crate::numbers::{first_refusal, first_state_refusal, would_pass_the_limit};
-use crate::numbers::{Answer, State, MESSAGE_LIMIT};
+use crate::numbers::{Answer, State, KEY_LIMIT, MESSAGE_LIMIT};
 
 /// The query of a call that takes a share count.
 fn query(n: usize, tests: &[(u32, bool)], formula: impl FnOnce(u64) -> u64) -> Answer {
@@ -77,9 +77,14 @@ pub fn b2a_words(n: usize) -> Answer {
     query(n, &[], |n| 2 * (n - 1) + conversion(n) + addition(n))
 }
 
-/// What `split_key` draws (section 2): 16(n−1).
+/// What `split_key` draws: 16(n−1) for a key of up to 64 bytes (section 2), and for a longer one
+/// "ceil(K/4)·(n−1) words and then floor((K+8)/64) + 1 compressions" (request (iii)).
 pub fn split_key_words(n: usize, key_len: usize) -> Answer {
-    query(n, &[(4, key_len > 64)], |n| 16 * (n - 1))
+    let length = key_len as u64;
+    query(n, &[(4, key_len > KEY_LIMIT)], |n| match length {
+        0..=64 => 16 * (n - 1),
+        _ => length.div_ceil(4) * (n - 1) + ((length + 8) / 64 + 1) * compression(n),
+    })
 }
 
 /// What `sha1_compress` draws (section 6): 5,220·n(n−1).

@@ -1,5 +1,5 @@
-//! The rules of masked SHA-1 and HMAC-SHA-1 (section 6). A rule gives nothing when the supply
-//! runs out under it.
+//! The rules of masked SHA-1 and HMAC-SHA-1 (section 6), and the splitting of keys for them
+//! (section 2 and request (iii)). A rule gives nothing when the supply runs out under it.
 
 use crate::numbers::Chain;
 use crate::rules::{add, and, open_xor, split, xor};
@@ -47,12 +47,16 @@ pub(crate) fn chain_record(words: &[Shared]) -> Chain {
     chain
 }
 
-/// Bytes "read as … big-endian words" (section 2).
-fn big_endian_words(bytes: &[u8]) -> Vec<u32> {
+/// The word of four bytes, big-endian; fewer bytes are its low end.
+fn big_endian_word(bytes: &[u8]) -> u32 {
     bytes
-        .chunks(4)
-        .map(|four| u32::from_be_bytes([four[0], four[1], four[2], four[3]]))
-        .collect()
+        .iter()
+        .fold(0, |word, byte| word << 8 | u32::from(*byte))
+}
+
+/// Bytes, four to each word, "read as … big-endian words" (section 2).
+fn big_endian_words(bytes: &[u8]) -> Vec<u32> {
+    bytes.chunks(4).map(big_endian_word).collect()
 }
 
 /// Section 6: "Public values enter as (v, 0, …, 0): message words, whole words of padding".
@@ -61,16 +65,41 @@ pub(crate) fn public_words(n: usize, bytes: &[u8]) -> Vec<Shared> {
     words.iter().map(|&word| public(n, word)).collect()
 }
 
-/// Section 2: a key "is padded on the right with zero bytes to 64, read as 16 big-endian words,
-/// and split word by word".
-pub(crate) fn split_key(n: usize, key: &[u8], supply: &mut Supply) -> Option<Vec<u32>> {
-    let mut bytes = key.to_vec();
-    bytes.resize(64, 0);
-    let mut shares = Vec::new();
-    for word in big_endian_words(&bytes) {
-        shares.extend(split(n, word, supply)?);
+/// Bytes with zero bytes after them up to a length, "split word by word" (section 2).
+fn split_bytes(n: usize, bytes: &[u8], length: usize, supply: &mut Supply) -> Option<Vec<Shared>> {
+    let mut filled = bytes.to_vec();
+    filled.resize(length, 0);
+    let mut words = Vec::new();
+    for word in big_endian_words(&filled) {
+        words.push(split(n, word, supply)?);
     }
-    Some(shares)
+    Some(words)
+}
+
+/// Section 2: a key of up to 64 bytes "is padded on the right with zero bytes to 64, read as 16
+/// big-endian words, and split word by word". Request (iii), for a longer one: "the 5n digest
+/// words, then zero shares, become the key block".
+pub(crate) fn split_key(n: usize, key: &[u8], supply: &mut Supply) -> Option<Vec<u32>> {
+    let mut block = match key.len() {
+        0..=64 => split_bytes(n, key, 64, supply)?,
+        _ => long_key_digest(n, key, supply)?,
+    };
+    block.resize(16, vec![0; n]);
+    Some(block.concat())
+}
+
+/// Request (iii): "A long key's bytes are split as they stand, in big-endian words, the last one
+/// filled with zero bytes, and then hashed in shares under their true length". Section 6: "a
+/// padding byte in a word already shared, goes into share 1", "whole words of padding" are public.
+fn long_key_digest(n: usize, key: &[u8], supply: &mut Supply) -> Option<Vec<Shared>> {
+    let length = key.len().next_multiple_of(4);
+    let mut words = split_bytes(n, key, length, supply)?;
+    let padding = padding(key.len() as u64);
+    let (in_last_word, whole_words) = padding.split_at(length - key.len());
+    let last = words.len() - 1;
+    words[last] = xor_constant(&words[last], big_endian_word(in_last_word));
+    words.extend(public_words(n, whole_words));
+    compress_blocks(starting_chain(n), &words, supply)
 }
 
 /// FIPS 180-4, 6.1.2, step 1. Section 6: "The schedule is worked out as 80 words, each in n
@@ -138,6 +167,29 @@ pub(crate) fn compress(
     Some(new)
 }
 
+/// The chain after blocks of 16 shared words, one after another.
+fn compress_blocks(
+    chain: Vec<Shared>,
+    words: &[Shared],
+    supply: &mut Supply,
+) -> Option<Vec<Shared>> {
+    let mut chain = chain;
+    for block in words.chunks(16) {
+        chain = compress(&chain, block, supply)?;
+    }
+    Some(chain)
+}
+
+/// FIPS 180-4, 5.1.1: the padding after this many bytes.
+fn padding(length: u64) -> Vec<u8> {
+    let mut bytes = vec![0x80];
+    while (length + bytes.len() as u64) % 64 != 56 {
+        bytes.push(0);
+    }
+    bytes.extend((length * 8).to_be_bytes());
+    bytes
+}
+
 /// FIPS 180-4, 5.3.1: the starting chain, a public value.
 fn starting_chain(n: usize) -> Vec<Shared> {
     [0x67452301, 0xefcdab89, 0x98badcfe, 0x10325476, 0xc3d2e1f0]
@@ -163,7 +215,7 @@ pub(crate) fn outer_key_chain(key: &[Shared], supply: &mut Supply) -> Option<Vec
 }
 
 /// The inner digest: the chain after the rest of a message with the padding of FIPS 180-4, 5.1.1.
-/// The length is that of the whole message; padded in, it counts the inner key block's 64 bytes too.
+/// The length is the whole message's; padded in, it counts the inner key block's 64 bytes too.
 pub(crate) fn inner_digest(
     chain: Vec<Shared>,
     rest: &[u8],
@@ -171,17 +223,9 @@ pub(crate) fn inner_digest(
     supply: &mut Supply,
 ) -> Option<Vec<Shared>> {
     let mut bytes = rest.to_vec();
-    bytes.push(0x80);
-    while bytes.len() % 64 != 56 {
-        bytes.push(0);
-    }
-    bytes.extend(((64 + length) * 8).to_be_bytes());
-    let n = chain[0].len();
-    let mut inner = chain;
-    for block in public_words(n, &bytes).chunks(16) {
-        inner = compress(&inner, block, supply)?;
-    }
-    Some(inner)
+    bytes.extend(padding(64 + length));
+    let words = public_words(chain[0].len(), &bytes);
+    compress_blocks(chain, &words, supply)
 }
 
 /// The inner digest, still in shares, with the padding of FIPS 180-4, 5.1.1, as whole public

@@ -1,6 +1,6 @@
 //! Tests: the reference values and limits of section 7, every refusal of section 3, the order of
-//! draws, and the openings against plain arithmetic and a plain SHA-1. Streaming has tests of its
-//! own, which use the helpers here.
+//! draws, the openings against plain arithmetic and a plain SHA-1, and the long keys of request
+//! (iii). Streaming has tests of its own, which use the helpers here.
 
 use crate::supply::Supply;
 use crate::*;
@@ -93,7 +93,10 @@ fn plain_sha1(message: &[u8]) -> Vec<u8> {
 }
 
 pub(crate) fn plain_hmac(key: &[u8], message: &[u8]) -> Vec<u8> {
-    let mut block = key.to_vec();
+    let mut block = match key.len() {
+        0..=64 => key.to_vec(),
+        _ => plain_sha1(key),
+    };
     block.resize(64, 0);
     let mut inner: Vec<u8> = block.iter().map(|byte| byte ^ 0x36).collect();
     inner.extend(message);
@@ -425,13 +428,14 @@ fn b2a_draws_in_order() {
 // Section 6.
 
 #[test]
-fn keys_are_split_word_by_word() {
+fn keys_of_up_to_64_bytes_are_padded_and_split_word_by_word() {
     for n in COUNTS {
         for length in [0, 1, 3, 4, 20, 63, 64] {
             let key = random_bytes(1, length);
             let mut block = key.clone();
             block.resize(64, 0);
-            let words = random_words(2, split_key_words(n, length).drawn);
+            let words = random_words(2, 16 * (n as u64 - 1));
+            assert_eq!(split_key_words(n, length), done(words.len() as u64));
             let mut expected = Vec::new();
             for (w, four) in block.chunks(4).enumerate() {
                 let mut shares = vec![0; n];
@@ -582,7 +586,7 @@ fn hmac_is_made_of_compressions_in_order() {
 #[test]
 fn rfc_2202() {
     let counting: Vec<u8> = (1..=25).collect();
-    let cases: [(&[u8], &[u8], &str); 5] = [
+    let cases: [(&[u8], &[u8], &str); 7] = [
         (
             &[0x0b; 20],
             b"Hi There",
@@ -608,18 +612,22 @@ fn rfc_2202() {
             b"Test With Truncation",
             "4c1a03424b55e07fe7f27be1d58bb9324a9a5a04",
         ),
+        (
+            &[0xaa; 80],
+            b"Test Using Larger Than Block-Size Key - Hash Key First",
+            "aa4ae5e15272d00e95705637ce8a3b55ed402112",
+        ),
+        (
+            &[0xaa; 80],
+            b"Test Using Larger Than Block-Size Key and Larger Than One Block-Size Data",
+            "e8e99d0f45237d786d6bbaa7965c7808bbff1a91",
+        ),
     ];
     for n in COUNTS {
         for (key, message, tag) in cases {
             assert_eq!(hex(&plain_hmac(key, message)), tag);
             assert_eq!(hex(&hmac_done(n, key, message, 1)), tag);
         }
-        // Cases 6 and 7 have keys of 80 bytes, which are over the limit.
-        let mut shares = vec![BEFORE; 16 * n];
-        let words = random_words(1, 200);
-        let answer = split_key(n, &[0xaa; 80], &mut shares, &words);
-        assert_eq!(answer, refused(4));
-        assert_eq!(shares, vec![BEFORE; 16 * n]);
     }
 }
 
@@ -636,6 +644,182 @@ fn hmac_agrees_with_the_plain_one() {
             let tag = hmac_done(n, &key, &message, 6);
             assert_eq!(tag, plain_hmac(&key, &message), "n {n}, length {length}");
         }
+    }
+}
+
+// Request (iii): keys over 64 bytes.
+
+/// Lengths of long keys, each with the words it is split into and the blocks it is hashed in.
+const LONG_KEYS: [(usize, u64, u64); 10] = [
+    (65, 17, 2),
+    (66, 17, 2),
+    (67, 17, 2),
+    (68, 17, 2),
+    (119, 30, 2),
+    (120, 30, 3),
+    (127, 32, 3),
+    (128, 32, 3),
+    (1023, 256, 17),
+    (1024, 256, 17),
+];
+
+#[test]
+fn a_long_key_block_is_the_hash_and_then_zero_shares() {
+    for n in COUNTS {
+        for (length, words, blocks) in LONG_KEYS {
+            let drawn = words * (n as u64 - 1) + blocks * 5220 * (n * (n - 1)) as u64;
+            assert_eq!(split_key_words(n, length), done(drawn));
+            let key = random_bytes(length as u64, length);
+            let shares = split_key_done(n, &key, 1);
+            let opened: Vec<u8> = shares[..5 * n]
+                .chunks(n)
+                .flat_map(|shares| xor_of(shares).to_be_bytes())
+                .collect();
+            assert_eq!(opened, plain_sha1(&key), "n {n}, length {length}");
+            assert_eq!(shares[5 * n..], vec![0; 11 * n]);
+        }
+    }
+}
+
+#[test]
+fn long_keys_of_every_length_in_a_block_are_hashed() {
+    let key = random_bytes(1, 192);
+    for length in 65..=192 {
+        let shares = split_key_done(1, &key[..length], 2);
+        let opened: Vec<u8> = shares.iter().flat_map(|word| word.to_be_bytes()).collect();
+        assert_eq!(opened[..20], plain_sha1(&key[..length]), "length {length}");
+        assert_eq!(opened[20..], [0; 44]);
+    }
+}
+
+#[test]
+fn a_key_of_66_bytes_in_two_shares_step_by_step() {
+    let key = random_bytes(1, 66);
+    let words = random_words(2, 17 + 2 * 10440);
+    // Sixteen full words and one of two bytes, filled with zero bytes, draw one word each.
+    let mut padded = Vec::new();
+    for w in 0..17 {
+        let byte = |place| *key.get(4 * w + place).unwrap_or(&0);
+        let value = u32::from_be_bytes([byte(0), byte(1), byte(2), byte(3)]);
+        let mut shares = [BEFORE; 2];
+        assert_eq!(split(2, value, &mut shares, &words[w..]), done(1));
+        padded.extend(shares);
+    }
+    // The padding's 0x80 comes third in the last of them, and goes into share 1.
+    padded[2 * 16] ^= 0x8000;
+    // Whole words of padding are (v, 0): fourteen zeros, then the length in bits.
+    padded.extend([0; 2 * 14]);
+    padded.extend([66 * 8, 0]);
+    // The two compressions draw after all of the splitting.
+    let mut start = Chain { shares: [0; 40] };
+    for (w, value) in START.into_iter().enumerate() {
+        start.shares[2 * w] = value;
+    }
+    let first = sha1_compress(2, start, &padded[..32], &words[17..]);
+    assert_eq!((first.number, first.drawn), (0, 10440));
+    let second = sha1_compress(2, first.chain, &padded[32..], &words[17 + 10440..]);
+    assert_eq!((second.number, second.drawn), (0, 10440));
+    // The 10 digest words, then zero shares.
+    let mut expected = second.chain.shares[..10].to_vec();
+    expected.resize(32, 0);
+
+    let mut shares = vec![BEFORE; 32];
+    let answer = split_key(2, &key, &mut shares, &words);
+    assert_eq!(answer, done(17 + 2 * 10440));
+    assert_eq!(shares, expected);
+}
+
+#[test]
+fn long_keys_are_split_then_padded_then_compressed() {
+    // Lengths, each with the padding in the last key word and the first whole word of padding.
+    let cases = [
+        (65, 0x800000, 0),
+        (66, 0x8000, 0),
+        (67, 0x80, 0),
+        (68, 0, 0x80000000),
+        (119, 0x80, 0),
+        (120, 0, 0x80000000),
+        (127, 0x80, 0),
+        (128, 0, 0x80000000),
+    ];
+    for n in [1, 2, 4] {
+        for (length, in_last_word, whole_word) in cases {
+            let key = random_bytes(1, length);
+            let words = random_words(2, split_key_words(n, length).drawn);
+            let mut rest = &words[..];
+            let mut padded = Vec::new();
+            for part in key.chunks(4) {
+                let mut four = [0; 4];
+                four[..part.len()].copy_from_slice(part);
+                let mut shares = vec![BEFORE; n];
+                let answer = split(n, u32::from_be_bytes(four), &mut shares, rest);
+                rest = &rest[answer.drawn as usize..];
+                padded.extend(shares);
+            }
+            let after = padded.len();
+            padded[after - n] ^= in_last_word;
+            padded.resize((length + 9).div_ceil(64) * 16 * n, 0);
+            padded[after] = whole_word;
+            let last = padded.len() - n;
+            padded[last] = length as u32 * 8;
+            let mut chain = Chain { shares: [0; 40] };
+            for (w, value) in START.into_iter().enumerate() {
+                chain.shares[n * w] = value;
+            }
+            for block in padded.chunks(16 * n) {
+                let answer = sha1_compress(n, chain, block, rest);
+                assert_eq!(answer.number, 0);
+                rest = &rest[answer.drawn as usize..];
+                chain = answer.chain;
+            }
+            assert!(rest.is_empty());
+            let mut expected = chain.shares[..5 * n].to_vec();
+            expected.resize(16 * n, 0);
+            let shares = split_key_done(n, &key, 2);
+            assert_eq!(shares, expected, "n {n}, length {length}");
+        }
+    }
+}
+
+#[test]
+fn one_word_less_for_a_long_key_is_five() {
+    for n in [2, 4] {
+        for (length, words, blocks) in LONG_KEYS {
+            let key = random_bytes(1, length);
+            let splitting = words as usize * (n - 1);
+            let all = splitting + blocks as usize * 5220 * n * (n - 1);
+            let lent = random_words(2, all as u64);
+            let mut shares = vec![BEFORE; 16 * n];
+            for less in [0, splitting - 1, splitting, splitting + 1, all - 1] {
+                let answer = split_key(n, &key, &mut shares, &lent[..less]);
+                assert_eq!(answer, refused(5));
+                assert_eq!(shares, vec![BEFORE; 16 * n]);
+            }
+            let answer = split_key(n, &key, &mut shares, &lent);
+            assert_eq!(answer, done(all as u64));
+        }
+    }
+}
+
+#[test]
+fn splitting_a_key_is_refused_in_order() {
+    for n in COUNTS {
+        let lent = random_words(1, split_key_words(n, 1024).drawn);
+        for length in [1025, 1026, 2000] {
+            let key = vec![7; length];
+            for words in [&lent[..], &[]] {
+                let mut shares = vec![BEFORE; 16 * n];
+                assert_eq!(split_key(3, &key, &mut shares[1..], words), refused(1));
+                assert_eq!(split_key(n, &key, &mut shares[1..], words), refused(3));
+                assert_eq!(split_key(n, &key, &mut shares, words), refused(4));
+                assert_eq!(shares, vec![BEFORE; 16 * n]);
+            }
+        }
+        let mut shares = vec![BEFORE; 16 * n];
+        let number = if n == 1 { 0 } else { 5 };
+        let answer = split_key(n, &[7; 1024], &mut shares, &[]);
+        assert_eq!(answer, Answer { number, drawn: 0 });
+        assert_eq!(shares == vec![BEFORE; 16 * n], n != 1);
     }
 }
 
@@ -662,8 +846,8 @@ fn limits() {
         assert_eq!((answer, tag), (refused(4), [0xa5; 20]));
         assert_eq!(hmac_sha1_words(n, 4097), refused(4));
         assert_eq!(hmac_sha1_words(n, usize::MAX), refused(4));
-        assert_eq!(split_key_words(n, 64).number, 0);
-        assert_eq!(split_key_words(n, 65), refused(4));
+        assert_eq!(split_key_words(n, 1024).number, 0);
+        assert_eq!(split_key_words(n, 1025), refused(4));
         assert_eq!(split_key_words(n, usize::MAX), refused(4));
     }
 }
@@ -721,6 +905,10 @@ fn longer_calls(n: usize) -> Vec<(Answer, Call)> {
         let mut shares = vec![BEFORE; 16 * n];
         (split_key(n, b"a key", &mut shares, words), shares)
     };
+    let long_key = move |words: &[u32]| {
+        let mut shares = vec![BEFORE; 16 * n];
+        (split_key(n, &[0x5a; 70], &mut shares, words), shares)
+    };
     let compression = move |words: &[u32]| {
         let chain = Chain {
             shares: [BEFORE; 40],
@@ -742,6 +930,7 @@ fn longer_calls(n: usize) -> Vec<(Answer, Call)> {
         (split_words(n), Box::new(value)),
         (expand_words(n), Box::new(twice)),
         (split_key_words(n, 5), Box::new(key)),
+        (split_key_words(n, 70), Box::new(long_key)),
         (sha1_compress_words(n), Box::new(compression)),
         (hmac_sha1_words(n, 9), Box::new(mac)),
     ]
@@ -823,8 +1012,8 @@ fn hash_calls_are_refused_in_order() {
             };
             assert_eq!(answer, expected);
             let mut shares = vec![BEFORE; other];
-            assert_eq!(split_key(n, &[1; 64], &mut shares, &[]), refused(3));
-            assert_eq!(split_key(n, &[1; 65], &mut shares, &[]), refused(3));
+            assert_eq!(split_key(n, &[1; 1024], &mut shares, &[]), refused(3));
+            assert_eq!(split_key(n, &[1; 1025], &mut shares, &[]), refused(3));
             assert_eq!(shares, vec![BEFORE; other]);
             let mut tag = [0xa5; 19];
             let wrong_key = vec![1; other];
@@ -841,7 +1030,7 @@ fn hash_calls_are_refused_in_order() {
         assert_eq!(hmac_sha1(n, &key, &long, &mut tag, &[]), refused(4));
         assert_eq!(tag, [0xa5; 20]);
         let mut shares = vec![BEFORE; 16 * n];
-        assert_eq!(split_key(n, &[1; 65], &mut shares, &[]), refused(4));
+        assert_eq!(split_key(n, &[1; 1025], &mut shares, &[]), refused(4));
         assert_eq!(shares, vec![BEFORE; 16 * n]);
     }
 }
@@ -858,7 +1047,7 @@ fn share_counts_are_refused_first() {
             let mut y = vec![BEFORE; length];
             assert_eq!(split(n, 1, &mut y, &[]), refused(1));
             assert_eq!(expand(n, &x, &mut y, &[]), refused(1));
-            assert_eq!(split_key(n, &[1; 65], &mut y, &[]), refused(1));
+            assert_eq!(split_key(n, &[1; 1025], &mut y, &[]), refused(1));
             assert_eq!(y, vec![BEFORE; length]);
             let mut tag = [0xa5; 19];
             assert_eq!(hmac_sha1(n, &x, &[7; 4097], &mut tag, &[]), refused(1));
