@@ -24,9 +24,9 @@ def compress_words(n):
     return 5220 * n * (n - 1)
 
 
-def call(name, n, arguments, **more):
+def call(name, n, arguments, which="", **more):
     """A call with n shares that must be done: the number 0."""
-    return Call(f"{name}, {n} shares", f"flamivorse_{name}", (Number(n), *arguments), number=0, **more)
+    return Call(f"{name}{which}, {n} shares", f"flamivorse_{name}", (Number(n), *arguments), number=0, **more)
 
 
 def sampled(n, sample, least):
@@ -98,12 +98,21 @@ def operations(n):
 
 
 def splittings(n):
-    """These get the secret in the clear. Their registers hold it; what they store in the caller's slices may not depend on it, nor the path."""
-    value, key = Secret("value", 1), Secret("key", 1, words=64, width=8)
+    """These get the secret in the clear. Their registers hold it until it is split; what they store may not depend on it, nor the path."""
+    value, key = Share(Secret("value", 1), 0), Shares(Secret("key", 1, words=64, width=8))
     return [
-        call("split_key", n, (Shares(key), Room(16 * n), FreshWords(16 * (n - 1))), only_lent=True, leaves=True),
-        call("split", n, (Share(value, 0), Room(n), FreshWords(n - 1)), only_lent=True),
+        call("split_key", n, (key, Room(16 * n), FreshWords(16 * (n - 1))), splits=key, leaves=True),
+        call("split", n, (value, Room(n), FreshWords(n - 1)), splits=value),
     ]
+
+
+def long_key(n, quick=0, deep=0):
+    """A key of 100 bytes: 25 words are split, then hashed by two compressions. Nothing that it stores may depend on the
+    key but in shares, and after the splitting no register either."""
+    key = Shares(Secret("key", 1, words=100, width=8))
+    arguments = (key, Room(16 * n), FreshWords(25 * (n - 1) + 2 * compress_words(n)))
+    kept = {"quick": quick, "deep": deep, **sampled(n, 2 * 10007 * n, least=1)}
+    return call("split_key", n, arguments, which=", hashing it", splits=key, leaves=True, **kept)
 
 
 def openings(n):
@@ -148,6 +157,8 @@ COPYING = [
     hmac_sha1(2, quick=100, deep=400),
     sha1_compress(4, quick=100, deep=500),
     sha1_compress(2, quick=200, deep=2000),
+    long_key(4, quick=40, deep=250),
+    long_key(2, quick=100, deep=1000),
     *streaming(4, quick=80, deep=500),
     *streaming(2, quick=200, deep=2000),
 ]
@@ -155,6 +166,6 @@ SHORT = [one for n in (8, 4, 2) for one in short(n)]
 CALLS = [*COPYING, sha1_compress(8, quick=40, deep=200), *SHORT, *two_share_forms()]
 
 # Every call by share count, made once each to see what it leaves behind: nothing, once it is cleared.
-EVERY = {n: [hmac_sha1(n), *streaming(n), sha1_compress(n), *short(n)] for n in (8, 4, 2, 1)}
+EVERY = {n: [hmac_sha1(n), *streaming(n), sha1_compress(n), long_key(n), *short(n)] for n in (8, 4, 2, 1)}
 EVERY[2] += two_share_forms()
 ONCE = [replace(one, name=f"left by {one.name}", leaks=False) for some in EVERY.values() for one in some]

@@ -123,6 +123,37 @@ function split_bare
     mov [rsi+4], edi
     ret
 
+# (value, _, shares, _, words, _): the value from memory, where a register holds it, into shares; then the first of them
+# from the words again
+function split_safe
+    mov eax, [r8]
+    xor eax, [rdi]
+    mov [rdx+4], eax
+    mov eax, [r8]
+    mov [rdx], eax
+    ret
+
+# the same, with the value on the stack until its mask is there
+function split_waiting
+    mov eax, [rdi]
+    mov [rsp-8], eax
+    mov eax, [r8]
+    xor eax, [rsp-8]
+    mov [rdx+4], eax
+    mov eax, [r8]
+    mov [rdx], eax
+    ret
+
+# the same, with the value in a register once more after the splitting
+function split_opened
+    mov eax, [r8]
+    xor eax, [rdi]
+    mov [rdx+4], eax
+    mov eax, [r8]
+    mov [rdx], eax
+    xor eax, [rdx+4]
+    ret
+
 # (x0, x1, z, _): z is x0 ^ x1
 function open_at_end
     xor edi, esi

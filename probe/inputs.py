@@ -66,6 +66,9 @@ class Shares:
 
     secret: Secret
 
+    def bytes(self):
+        return self.secret.words * self.secret.shares * self.secret.width // 8
+
     def content(self, frame):
         flat = [share for word in frame.shares[self.secret] for share in word]
         return struct.pack(f"<{len(flat)}{FORMAT[self.secret.width]}", *flat)
@@ -100,8 +103,11 @@ class FreshWords:
 
     count: int
 
+    def bytes(self):
+        return 4 * self.count
+
     def place(self, frame):
-        frame.slice(frame.source.randbytes(4 * self.count), self.count)
+        frame.slice(frame.source.randbytes(self.bytes()), self.count)
 
 
 @dataclass(frozen=True)
@@ -148,7 +154,7 @@ class Call:
     sample: int = 0
     number: int | None = None
     hands_back: Room | None = None
-    only_lent: bool = False
+    splits: Share | Shares | None = None
     leaves: bool = False
     leaks: bool = False
 

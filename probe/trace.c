@@ -29,6 +29,10 @@ static uint32_t *visits, visits_kept;        // visits of each place; how many a
 static uint64_t sample_every, sample_from;   // besides, SAMPLE steps are kept of so many, from a place on; 0: none
 static uint64_t copy_from, copy_to;          // where the archive's own copy stands: all its steps are kept
 
+// A call that splits a secret: where that stands in the clear, and the words that it is split with.
+static uint64_t clear_from, clear_to, supply_from, supply_to;
+static uint64_t furthest, split_end;         // the furthest of those words read so far; the step with which the splitting is over, 0: not yet
+
 static uint32_t *path;
 static uint8_t *kept;
 static uint64_t path_length, path_room;
@@ -146,12 +150,26 @@ static void settle(void) {
     if (stored) {
         value[0] = value[1] = 0;
         memcpy(value, stored, instruction->bytes);
-        put_words(value, instruction->bytes, touched >= data.at && touched < data.at + data.length ? LENT : OWN, -1);
+        put_words(value, instruction->bytes, MEMORY, -1);
     }
     if (instruction->flags)
         put_flags();
     if (first_run)
         find_missed(instruction);
+}
+
+// On the first run: the splitting is over where, the secret read for the last time, a word that was drawn is read again.
+static void follow_splitting(uint64_t address) {
+    const Instruction *instruction = instruction_at(address);
+    uint64_t from = instruction->touches && !instruction->stores ? address_of(instruction) : 0;
+    if (from >= clear_from && from < clear_to)
+        split_end = 0;
+    if (from < supply_from || from >= supply_to)
+        return;
+    if (from <= furthest && !split_end)
+        split_end = path_length;
+    if (from > furthest)
+        furthest = from;
 }
 
 static void lengthen_path(uint64_t address) {
@@ -163,7 +181,8 @@ static void lengthen_path(uint64_t address) {
     }
     int sampled = sample_every && (path_length + sample_from) % sample_every < SAMPLE;
     int copies = address >= copy_from && address < copy_to;
-    kept[path_length] = !visits_kept || visits[address - image.at]++ < visits_kept || sampled || copies;
+    int splits = clear_to && !split_end;
+    kept[path_length] = !visits_kept || visits[address - image.at]++ < visits_kept || sampled || copies || splits;
     path[path_length++] = address;
 }
 
@@ -197,8 +216,11 @@ static void on_instruction(uc_engine *engine, uint64_t address, uint32_t size, v
         uc_emu_stop(engine);
         return;
     }
-    if (first_run && in_image(address))
+    if (first_run && in_image(address)) {
+        if (clear_to)
+            follow_splitting(address);
         lengthen_path(address);
+    }
     if (step >= path_length || path[step] != address) {
         leave_path(engine, address);
         return;
@@ -309,6 +331,15 @@ static Region region(uint64_t at, uint64_t length) {
     return (Region){ at, length, aligned_alloc(PAGE, length) };
 }
 
+// A call that splits a secret, from one span of the data with the words of another: of its registers only those after
+// the splitting count.
+void probe_splits(uint64_t clear, uint64_t clear_bytes, uint64_t supply, uint64_t supply_bytes) {
+    clear_from = clear;
+    clear_to = clear + clear_bytes;
+    supply_from = supply;
+    supply_to = supply + supply_bytes;
+}
+
 // Once in a process. `handed` are the bytes of the data that the call hands back openly.
 int probe_open(uint64_t image_at, const uint8_t *linked, uint64_t image_length, uint64_t data_at, uint64_t data_length, int secrets,
                uint32_t visits_to_keep, uint64_t every, uint64_t from, uint64_t copy, uint64_t copy_end,
@@ -398,7 +429,8 @@ int probe_left(uint64_t entry, uint64_t clear, const uint64_t *arguments, int co
     return error;
 }
 
-// Steps of the path; values that the decoder missed and addresses that differed from run to run, and where.
-void probe_state(uint64_t state[5]) {
-    memcpy(state, (uint64_t[5]){ path_length, missed, missed_at, moved, moved_at }, 5 * sizeof *state);
+// Steps of the path; values that the decoder missed and addresses that differed from run to run, and where; the step
+// with which a splitting is over, 0: none.
+void probe_state(uint64_t state[6]) {
+    memcpy(state, (uint64_t[6]){ path_length, missed, missed_at, moved, moved_at, split_end }, 6 * sizeof *state);
 }

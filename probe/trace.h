@@ -8,7 +8,7 @@ enum { GENERAL = 16, REGISTERS = 32 };       // registers 0 to 15 are rax to r15
 enum { BATCH = 64 };                         // runs whose values are held before they are counted
 enum { WORD, WEIGHT, FLAGS };                // kinds of value: 32 bits; the number of ones of a wider value; the flags
 
-enum { REGISTER, OWN, LENT };                // where a value is: in a register, in the code's own memory, in a slice of the caller
+enum { REGISTER, MEMORY };                   // where a value is
 
 typedef struct { uint8_t number, bytes, high; } Register;
 

@@ -7,7 +7,7 @@ from dataclasses import dataclass, field
 from statistics import NormalDist
 
 from image import BASE
-from inputs import DATA, Inputs, Result
+from inputs import DATA, FreshWords, Inputs, Result, Shares
 
 HERE = os.path.dirname(os.path.abspath(__file__))
 SECRETS = 4
@@ -15,7 +15,7 @@ FEWEST = 40  # runs for each secret: with fewer, hardly anything could be seen
 FALSE_ALARM = 1e-5  # for a whole call
 SPREAD = 7919  # with another seed other steps are sampled
 WORD, WEIGHT, FLAGS = range(3)
-REGISTER, OWN, LENT = range(3)
+REGISTER = 0  # where a value is; anything else is memory
 OTHER_PATH, LOST, EMULATOR = 1, 2, 3  # how a run ends: trace.c
 u64 = ctypes.c_uint64
 
@@ -106,6 +106,10 @@ class Tracer:
         kept = (call.visits, u64(call.sample), u64(seed * SPREAD), *map(u64, copy))
         if self.library.probe_open(*memory, SECRETS, *kept, *opened):
             raise Stopped("the emulator does not start")
+        if isinstance(call.splits, Shares):
+            words = next(argument for argument in call.arguments if isinstance(argument, FreshWords))
+            spans = [(DATA + frame.offsets[one], one.bytes()) for one in (call.splits, words)]
+            self.library.probe_splits(*(u64(number) for span in spans for number in span))
 
     def run(self, which):
         """One run with a secret; it must take the path of the others, and give the number that is expected."""
@@ -145,12 +149,16 @@ class Tracer:
         return measured
 
     def measured(self, runs):
-        findings, tests, state = (Finding * max(1, self.library.probe_values()))(), u64(), (u64 * 5)()
+        findings, tests, state = (Finding * max(1, self.library.probe_values()))(), u64(), (u64 * 6)()
         found = findings[: self.library.probe_findings(findings, ctypes.byref(tests))]
         self.library.probe_state(state)
         threshold = NormalDist().inv_cdf(1 - FALSE_ALARM / max(tests.value, 1))
-        found = [one for one in found if one.where == LENT or not self.call.only_lent]
+        found = [one for one in found if self.counts(one, state[5])]
         return self.sorted_out(found, threshold, Measured(steps=state[0], runs=runs, missed=state[1:3], moved=state[3:5]))
+
+    def counts(self, finding, split_end):
+        """A call that gets its secret in the clear may hold it in registers until it is split, and never store it."""
+        return finding.where != REGISTER or not self.call.splits or 0 < split_end <= finding.step
 
     @staticmethod
     def sorted_out(found, threshold, measured):

@@ -40,23 +40,13 @@ use Rattle.keys.proofs.Split.{word-is}
 abbrev H : Hash
 H = SHA1 32
 
--- ---- the last share of one word
-module _ (n : ℕ) (some : 0 < n) (ws : List ℕ) (at : ℕ) where
-  length-next : length (next (n - 1) ws at .0) ≡ n - 1
-  length-next = next-rule (n - 1) .makes ws at
-
-  pub last-made : (v p : ℕ) (x rest : List ℕ) → n ≤ 8 → split (length {A = ℕ} (take (n - 0) (replicate 8 0))) v ws at ≡ (x, p)
-      → getD (x ++ rest) (n - 1) 0 ≡ bitXor v (opened (next (n - 1) ws at .0))
-  unfolding split
-  last-made v p x rest few e =
-      let m = next (n - 1) ws at .0 in
-      let last = bitXor v (opened m) in
-      let lent : length {A = ℕ} (take (n - 0) (replicate 8 0)) ≡ n =
-      ap length (lent-zeros 8 n few) ∙ length-replicate {A = ℕ} n 0 in
-      let is : m ++ (last ∷ []) ≡ x = ap (λ (r : Run). r .0) (rw lent at e) in
-      let place : n - 1 ≡ length m + 0 = sym length-next ∙ sym (add-zero (length m)) in
-      rw (← is, append-assoc m (last ∷ []) rest)
-      (ap (λ t. getD (m ++ (last ∷ rest)) t 0) place ∙ getD-append-add m (last ∷ rest) 0 0)
+-- ---- the mask of one word: what was drawn for it, opened
+pub mask-made : (n at p r : ℕ) (ws m : List ℕ) → n ≤ 8
+    → next (length {A = ℕ} (take (n - 1 - 0) (replicate 8 0))) ws at ≡ (m, p) → r ≡ opened m → r ≡ opened (next (n - 1) ws at .0)
+mask-made n at p r ws m few e f =
+    let lent : length {A = ℕ} (take (n - 1 - 0) (replicate 8 0)) ≡ n - 1 =
+    ap length (lent-zeros 8 (n - 1) (omega arith)) ∙ length-replicate {A = ℕ} (n - 1) 0 in
+    f ∙ ap (λ (r : Run). opened (r .0)) (sym (rw lent at e))
 
 -- ---- the last shares, one after the other
 module _ (n : ℕ) (ws : List ℕ) where
@@ -81,13 +71,13 @@ module _ (n : ℕ) (ws : List ℕ) where
     as-many : length all ≡ m
     as-many = length-lasts (keyWords H m key) at ∙ length-words 4 m (filled (m * 4) key)
 
-    pub lasts-next : (p v s : ℕ) → w < length z → v ≡ numberOf 4 (drop (4 * w) key)
-        → s ≡ bitXor v (opened (next (n - 1) ws p .0)) → p ≡ at + w * (n - 1) → take w z ≡ take w all
-        → take (w + 1) (set z w s) ≡ take (w + 1) all
-    lasts-next p v s h e f place =
+    pub lasts-next : (p v mask : ℕ) → w < length z → v ≡ numberOf 4 (drop (4 * w) key)
+        → mask ≡ opened (next (n - 1) ws p .0) → p ≡ at + w * (n - 1) → take w z ≡ take w all
+        → take (w + 1) (set z w (bitXor v mask)) ≡ take (w + 1) all
+    lasts-next p v mask h e f place =
         let inside : w < length (keyWords H m key) = omega (arith, length-words 4 m (filled (m * 4) key)) in
-        filled-next z all w s h (room ∙ sym as-many)
-        (f ∙ rw (e, word-is key w m (omega arith), place) (sym (lasts-at (keyWords H m key) at w inside)))
+        filled-next z all w (bitXor v mask) h (room ∙ sym as-many)
+        (rw (f, e, word-is key w m (omega arith), place) (sym (lasts-at (keyWords H m key) at w inside)))
 
     pub lasts-end : length z ≤ w → take w z ≡ take w all → z ≡ all
     lasts-end h p = filled-end z all w (omega (arith, as-many)) (room ∙ sym as-many) p
@@ -327,9 +317,26 @@ module _ (n : ℕ) (key ws : List ℕ) (at : ℕ) where
   pub long-made : (d z : List ℕ) (q : ℕ) → hashKey hash n key ws at ≡ (d, q) → z ≡ d → hashKey hash n key ws at ≡ (z, q)
   long-made d z q e f = e ∙ ap (λ (t : List ℕ). (t, q)) (sym f)
 
+  -- a key of one block is its own first block
+  pub short-room : (m have : ℕ) → m ≡ 16 → at + 16 * (n - 1) ≤ have → at + m * (n - 1) ≤ have
+  short-room m have e h = rw e h
+
+  pub short-made : (m p : ℕ) (lasts z : List ℕ) → 0 < n → m ≡ 16 → lasts ≡ lastShares n (keyWords H m key) ws at
+      → p ≡ at + m * (n - 1) → z ≡ take (16 * n) (drop (0 * (16 * n)) (rounded n 64 (held n lasts ws at)))
+      → splits n (keyWords H 16 key) ws at ≡ (z, p)
+  short-made m p lasts z some e f g h =
+      let vs = keyWords H 16 key in
+      let many : length vs ≡ 16 = length-words 4 16 (filled 64 key) in
+      let kept : lasts ≡ lastShares n vs ws at = f ∙ rw e in
+      let s = held n (lastShares n vs ws at) ws at in
+      let long : length s ≡ 16 * n = length-held n some ws (lastShares n vs ws at) at ∙ rw (length-lasts n ws vs at, many) in
+      let rest : List ℕ = replicate (length (ending H 0 (replicate 64 0)) * n - length s) 0 in
+      let is : z ≡ s = h ∙ rw (kept, zero-mul (16 * n)) (take-at s rest (16 * n) long) in
+      splits-held vs at ∙ rw (is, g, e, many)
+
   module _ (short : l ≤ 64) where
-    pub short-room : (have : ℕ) → at + keyDraws hash n l ≤ have → at + 16 * (n - 1) ≤ have
-    short-room have h = rw (le-leb l 64 short) at h
+    pub drawn-room : (have : ℕ) → at + keyDraws hash n l ≤ have → at + 16 * (n - 1) ≤ have
+    drawn-room have h = rw (le-leb l 64 short) at h
 
     pub short-case : (o : Run) → splits n (keyWords H 16 key) ws at ≡ o → splitKey hash n key ws at ≡ o
     unfolding splitKey

@@ -1,4 +1,4 @@
--- A key's words by place, and words split one after the other: those done, and those left.
+-- A key's words by place, and a word of several, stored.
 use Prim.Native.Nat.{ℕ, zero, suc, _+_, _-_, _*_, _≤_, _<_}
 use mathlib.Core.Path.{_≡_, refl, sym, ap, _∙_}
 use mathlib.Core.List.{List, [], _∷_, _++_, append-nil, append-assoc}
@@ -68,54 +68,3 @@ module _ (n w : ℕ) (z : List ℕ) (room : w * n + n ≤ length z) where
       let front : length (take (w * n) z ++ x) ≡ w * n + n =
       rw (length-append (take (w * n) z) x, length-take-le (w * n) z (omega arith)) (omega (arith, l, part-length)) in
       rw (← append-assoc (take (w * n) z) x rest, ← e) (take-at (take (w * n) z ++ x) rest (w * n + n) front)
-
-  pub split-put : (v at p : ℕ) (ws x : List ℕ) → length x ≡ length part → split (length part) v ws at ≡ (x, p)
-      → take (w * n + n) (take (w * n) z ++ (x ++ drop (w * n + n - w * n) (drop (w * n) z))) ≡ take (w * n) z ++ split n v ws at .0
-  split-put v at p ws x l e = part-put x (split n v ws at .0) l (sym (ap (λ (r : List ℕ × ℕ). r .0) (rw part-length at e)))
-
-  pub split-place : (v at p : ℕ) (ws x : List ℕ) → split (length part) v ws at ≡ (x, p) → p ≡ at + (n - 1)
-  unfolding split
-  split-place v at p ws x e = sym (ap (λ (r : List ℕ × ℕ). r .1) (rw part-length at e)) ∙ next-rule (n - 1) .place ws at
-
--- ---- the words done, and those left
-splits-place : (n : ℕ) (vs ws : List ℕ) (at : ℕ) → splits n vs ws at .1 ≡ at + length vs * (n - 1)
-unfolding splits split
-splits-place n [] ws at = omega (arith, zero-mul (n - 1))
-splits-place n (v ∷ vs) ws at =
-    splits-place n vs ws (next (n - 1) ws at .1) ∙ omega (arith, next-rule (n - 1) .place ws at, suc-mul (length vs) (n - 1))
-
-module _ (n : ℕ) (key ws : List ℕ) where
-  abbrev vs : List ℕ
-  vs = keyWords H 16 key
-
-  sixteen : length vs ≡ 16
-  sixteen = length-words 4 16 (filled 64 key)
-
-  -- w words done, the rest from place p on
-  abbrev pub Splitting : ℕ → List ℕ → ℕ → List ℕ
-  Splitting w z p = take (w * n) z ++ splits n (drop w vs) ws p .0
-
-  pub splits-begins : (z : List ℕ) (at : ℕ) → Splitting 0 z at ≡ splits n vs ws at .0
-  splits-begins z at = rw (zero-mul n)
-
-  pub splits-next : (z y done : List ℕ) (w v at p : ℕ) → w < 16 → v ≡ numberOf 4 (drop (4 * w) key) → p ≡ at + (n - 1)
-      → take (w * n + n) y ≡ take (w * n) z ++ split n v ws at .0 → Splitting w z at ≡ done → Splitting (w + 1) y p ≡ done
-  unfolding splits split
-  splits-next z y done w v at p h e place f q =
-      let inside : w < length vs = omega (arith, sixteen) in
-      let more : (w + 1) * n ≡ w * n + n = omega (arith, add-mul w 1 n) in
-      let after : p ≡ next (n - 1) ws at .1 = place ∙ sym (next-rule (n - 1) .place ws at) in
-      let one : splits n (drop w vs) ws at .0 ≡ split n v ws at .0 ++ splits n (drop (suc w) vs) ws p .0 =
-      rw (drop-cons vs w 0 inside, ← word-is key w 16 h, ← e, after) in
-      rw (more, f, add-one w) (append-assoc (take (w * n) z) (split n v ws at .0) (splits n (drop (suc w) vs) ws p .0) ∙ (rw one at q))
-
-  pub short-key-made : (z : List ℕ) (at p w : ℕ) → 16 ≤ w → w ≤ 16 → length z ≡ 16 * n → p ≡ at + w * (n - 1)
-      → Splitting w z p ≡ splits n vs ws at .0 → splits n vs ws at ≡ (z, p)
-  unfolding splits
-  short-key-made z at p w h l e f q =
-      let all : w ≡ 16 = omega arith in
-      let none : drop w vs ≡ [] = drop-of-length-le vs {i = w} (omega (arith, sixteen)) in
-      let whole : take (w * n) z ≡ z = take-all (w * n) z (rw all (omega arith)) in
-      let done : z ≡ splits n vs ws at .0 = sym (append-nil z) ∙ ap (λ (t : List ℕ). t ++ []) (sym whole) ∙ (rw none at q) in
-      let place : splits n vs ws at .1 ≡ p = splits-place n vs ws at ∙ rw (sixteen, f, all) in
-      rw (done, ← place)

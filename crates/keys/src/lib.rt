@@ -1,11 +1,10 @@
 // Keys in shares: padded with zero bytes and split word by word. A key over one block is split as it stands, and then
-// hashed in shares.
+// hashed in shares. No word of a key waits on the stack: its mask is ready when it is read.
 ghost use mathlib.Core.Path.{_≡_};
 ghost use mathlib.Core.List.{[], _∷_, _++_};
 ghost use Prim.Native.Nat.{_+_, _-_, _*_, _/_, _≤_, _<_};
-ghost use lib.Bits.{bitXor};
 ghost use lib.ListN.{length, getD, take, drop};
-ghost use Rattle.rules.specs.Supply.{next, opened, split};
+ghost use Rattle.rules.specs.Supply.{next, opened};
 ghost use Rattle.rules.specs.Numbers.{largest, longestKey};
 ghost use Rattle.rules.specs.Hash.{numberOf, filled};
 ghost use Rattle.rules.specs.Sha1.{word, publics, used};
@@ -55,47 +54,18 @@ fn key_word(key: &[u8], i: usize) -> u32
     )
 }
 
-// ---- a key of at most one block
+// ---- its words are split, and of each the last share is kept
 
-// Word w of several becomes the shares of v; the place after.
-fn split_word(n: usize, w: usize, v: u32, shares: &mut [u32], words: &[u32], at: usize) -> usize
-    requires { ⌜ (0 < n) × (w * n + n ≤ length (now shares)) × (at + (n - 1) ≤ length (now words)) ⌝ }
-    ensures { λ r. ⌜ (take (w * n + n) (now (shares .exit))
-        ≡ take (w * n) (now (shares .entry)) ++ split n v (now (words .entry)) at .0)
-        × (r ≡ at + (n - 1)) ⌝ }
-{
-    let from = w * n;
-    let end = from + n;
-    let part = &mut shares[from..end];
-    shares::split_at(v, part, words, at)
-}
-
-// The key's words into shares, from the word at `at` on; the place after.
-fn short_key(n: usize, key: &[u8], shares: &mut [u32], words: &[u32], at: usize) -> usize
-    requires { ⌜ (0 < n) × (length (now shares) ≡ 16 * n) × (at + 16 * (n - 1) ≤ length (now words)) ⌝ }
-    ensures { λ r. ⌜ splits n (keyWords (hash .standard) 16 (now (key .entry))) (now (words .entry)) at
-        ≡ (now (shares .exit), r) ⌝ }
-{
-    let mut p = at;
-    let mut w: usize = 0;
-    while w < BLOCK_WORDS {
-        p = split_word(n, w, key_word(key, w), shares, words, p);
-        w += 1;
-    }
-    p
-}
-
-// ---- a longer key: its words are split, and of each the last share is kept
-
-// The last share of a word, split from the word at `at` on.
-fn last_share(n: usize, v: u32, words: &[u32], at: usize) -> u32
+// The XOR of the next n − 1 words, from the one at `at` on.
+fn mask_at(n: usize, words: &[u32], at: usize) -> u32
     requires { ⌜ (0 < n) × (n ≤ largest) × (at + (n - 1) ≤ length (now words)) ⌝ }
-    ensures { λ r. ⌜ r ≡ bitXor v (opened (next (n - 1) (now (words .entry)) at .0)) ⌝ }
+    ensures { λ r. ⌜ r ≡ opened (next (n - 1) (now (words .entry)) at .0) ⌝ }
 {
     let mut all = [0u32; LARGEST];
-    let shares = &mut all[0..n];
-    shares::split_at(v, shares, words, at);
-    all[n - 1]
+    let m = n - 1;
+    let drawn = &mut all[0..m];
+    shares::draw_each(drawn, words, at);
+    shares::open_xor(drawn)
 }
 
 // z becomes the last shares of the key's words, from the word at `at` on; the place after.
@@ -109,7 +79,8 @@ fn last_shares(n: usize, key: &[u8], z: &mut [u32], words: &[u32], at: usize) ->
     let mut p = at;
     let mut w = 0;
     while w < z.len() {
-        z[w] = last_share(n, key_word(key, w), words, p);
+        let mask = mask_at(n, words, p);
+        z[w] = key_word(key, w) ^ mask;
         p += n - 1;
         w += 1;
     }
@@ -183,7 +154,21 @@ fn padded_block(n: usize, bytes: usize, lasts: &[u32], j: usize, z: &mut [u32], 
     mark(n, &values, z);
 }
 
-// ---- its digest
+// ---- a key of at most one block
+
+// The key's words into shares, from the word at `at` on; the place after.
+fn short_key(n: usize, key: &[u8], shares: &mut [u32], words: &[u32], at: usize) -> usize
+    requires { ⌜ (0 < n) × (n ≤ largest) × (length (now shares) ≡ 16 * n) × (at + 16 * (n - 1) ≤ length (now words)) ⌝ }
+    ensures { λ r. ⌜ splits n (keyWords (hash .standard) 16 (now (key .entry))) (now (words .entry)) at
+        ≡ (now (shares .exit), r) ⌝ }
+{
+    let mut lasts = [0u32; BLOCK_WORDS];
+    let p = last_shares(n, key, &mut lasts, words, at);
+    held_block(n, BLOCK_BYTES, &lasts, 0, shares, words, at);
+    p
+}
+
+// ---- a longer key: its digest
 
 // The key of so many bytes, hashed from the word at p on. Its words were split from the word at `at` on.
 fn hash_key(n: usize, bytes: usize, lasts: &[u32], words: &[u32], at: usize, p: usize) -> Stepped

@@ -23,8 +23,8 @@ abbrev μ-loop : tie.MeasureT-loop
 loop-again : tie.Need-loop-again Inv-loop μ-loop
 loop-again c =
     let l = c .before .before .before .loop in
-    let next = lasts-next _ _ _ _ _ (l .z) (l .inv .1) (l .w) (l .p) _ _ (search needs) (c .before .key-word .ensures)
-    (c .last-share .ensures) (l .inv .2) (l .inv .3) in
+    let next = lasts-next _ _ _ _ _ (l .z) (l .inv .1) (l .w) (l .p) _ _ (search needs) (c .key-word .ensures)
+    (c .before .mask-at .ensures) (l .inv .2) (l .inv .3) in
     (search needs, simp length-set (search needs), search needs, next)
 
 pub last-shares-spec : {M : Type 1} → statement M
@@ -34,8 +34,8 @@ last-shares-spec =
     Inv-loop
     μ-loop
     (λ c. (search needs, search needs, search needs, refl))
-    (λ c κs. search needs)
     (λ c κs. (search needs, search needs, search block-room))
+    (λ c κs. search needs)
     (λ c. search needs)
     (λ c. search needs)
     (λ c. search needs)

@@ -1,6 +1,6 @@
 -- a key of at most one block, or a longer one
 use borrow.Author.Needs.{needs}
-use Rattle.keys.proofs.Held.{short-room, short-case, long-case}
+use Rattle.keys.proofs.Held.{drawn-room, short-case, long-case}
 use Rattle.keys.proofs.split_key.Statement.{statement}
 use Rattle.keys.proofs.split_key.Tie as tie
 
@@ -8,7 +8,7 @@ pub split-key-spec : {M : Type 1} → statement M
 split-key-spec =
     tie.close
     (tie.spec
-    (λ c κs. (search needs, search needs, search short-room))
+    (λ c κs. (search needs, search needs, search needs, search drawn-room))
     (λ c. search needs)
     (λ c. search short-case)
     (λ c κs. search needs)
