@@ -18,7 +18,6 @@ use masked_words::clear;
 use padding::blocks_in;
 use padding::joined;
 use padding::padding_words;
-use rules::BLOCK;
 use rules::BLOCK_BYTES;
 use rules::BLOCK_WORDS;
 use rules::CHAIN_WORDS;
@@ -170,17 +169,16 @@ fn short_key(n: usize, key: &[u8], shares: &mut [u32], words: &[u32], at: usize)
 
 // ---- a longer key: its digest
 
-// The key of so many bytes, hashed from the word at p on. Its words were split from the word at `at` on.
-fn hash_key(n: usize, bytes: usize, lasts: &[u32], words: &[u32], at: usize, p: usize) -> Stepped
-    requires { ⌜ (0 < n) × (n ≤ largest) × Hashable bytes × (at + length (now lasts) * (n - 1) ≤ length (now words))
+// The key of so many bytes, hashed from the word at p on. Its words were split from the word at `at` on. `block` is room
+// for one.
+fn hash_key(n: usize, bytes: usize, lasts: &[u32], block: &mut [u32], words: &[u32], at: usize, p: usize) -> Stepped
+    requires { ⌜ (0 < n) × (n ≤ largest) × Hashable bytes × (length (now block) ≡ 16 * n)
+        × (at + length (now lasts) * (n - 1) ≤ length (now words))
         × (p + blocksIn bytes * hash .draws n ≤ length (now words)) ⌝ }
     ensures { λ r. ⌜ blocks hash n (blocksIn bytes) (padded n bytes (held n (now (lasts .entry)) (now (words .entry)) at))
         (publics n (hash .standard .start)) (now (words .entry)) p
         ≡ (used n (r .chain .shares), r .at) ⌝ }
 {
-    let end = BLOCK_WORDS * n;
-    let mut block0 = [0u32; BLOCK];
-    let block = &mut block0[0..end];
     let count = blocks_in(bytes);
     let mut c = hash::start(n);
     let mut q = p;
@@ -208,18 +206,20 @@ fn digest_block(n: usize, chain: Chain, z: &mut [u32])
     shares::copy(digest, front);
 }
 
-// The key's words split, then hashed, from the word at `at` on. `lasts` is room for the last shares.
-fn key_digest(n: usize, key: &[u8], lasts: &mut [u32], words: &[u32], at: usize) -> Stepped
+// The key's words split, then hashed, from the word at `at` on. `lasts` is room for the last shares, `block` for a block.
+fn key_digest(n: usize, key: &[u8], lasts: &mut [u32], block: &mut [u32], words: &[u32], at: usize) -> Stepped
     requires { ⌜ (0 < n) × (n ≤ largest) × (64 < length (now key)) × (length (now key) ≤ longestKey)
-        × (length (now lasts) ≡ (length (now key) + 3) / 4) × (at + keyDraws hash n (length (now key)) ≤ length (now words)) ⌝ }
+        × (length (now lasts) ≡ (length (now key) + 3) / 4) × (length (now block) ≡ 16 * n)
+        × (at + keyDraws hash n (length (now key)) ≤ length (now words)) ⌝ }
     ensures { λ r. ⌜ hashKey hash n (now (key .entry)) (now (words .entry)) at
         ≡ (filled (16 * n) (used n (r .chain .shares)), r .at) ⌝ }
 {
     let p = last_shares(n, key, lasts, words, at);
-    hash_key(n, key.len(), lasts, words, at, p)
+    hash_key(n, key.len(), lasts, block, words, at, p)
 }
 
-// A key over one block into shares, from the word at `at` on; the place after.
+// A key over one block into shares, from the word at `at` on; the place after. Until the digest stands there, `shares` is
+// room for a block.
 fn long_key(n: usize, key: &[u8], shares: &mut [u32], words: &[u32], at: usize) -> usize
     requires { ⌜ (0 < n) × (n ≤ largest) × (64 < length (now key)) × (length (now key) ≤ longestKey)
         × (length (now shares) ≡ 16 * n) × (at + keyDraws hash n (length (now key)) ≤ length (now words)) ⌝ }
@@ -228,7 +228,7 @@ fn long_key(n: usize, key: &[u8], shares: &mut [u32], words: &[u32], at: usize) 
     let count = (key.len() + (WORD_BYTES - 1)) / WORD_BYTES;
     let mut all = [0u32; KEY];
     let lasts = &mut all[0..count];
-    let made = key_digest(n, key, lasts, words, at);
+    let made = key_digest(n, key, lasts, shares, words, at);
     digest_block(n, made.chain, shares);
     made.at
 }

@@ -14,14 +14,14 @@ use Rattle.keys.proofs.hash_key.Statement.{statement}
 use Rattle.keys.proofs.hash_key.Tie as tie
 
 abbrev Inv-loop : tie.InvT-loop
-Inv-loop n bytes lasts words at p end block₀ count c₀ q₀ j₀ block c q j =
+Inv-loop n bytes lasts block₀ words at p count c₀ q₀ j₀ block c q j =
     let W = padded n bytes (held n lasts words at) in
     (j ≤ count) × (length block ≡ 16 * n) × (count ≡ blocksIn bytes) × (q ≡ p + j * hash .draws n)
     × (Left n words W count j (used n (c .shares)) q
     ≡ blocks hash n (blocksIn bytes) W (publics n (hash .standard .start)) words p)
 
 abbrev μ-loop : tie.MeasureT-loop
-μ-loop n bytes lasts words at p end block₀ count c₀ q₀ j₀ block c q j = count - j
+μ-loop n bytes lasts block₀ words at p count c₀ q₀ j₀ block c q j = count - j
 
 pub hash-key-spec : {M : Type 1} → statement M
 hash-key-spec =
@@ -29,10 +29,6 @@ hash-key-spec =
     (tie.spec
     Inv-loop
     μ-loop
-    (λ c. search needs)
-    (λ c. search needs)
-    (λ c. search needs)
-    (λ c. search needs)
     (λ c κs. search needs)
     (λ c κs. search needs)
     (λ c. (search needs, search needs, search needs, search needs, search hash-begins))
@@ -41,4 +37,5 @@ hash-key-spec =
     (λ c. search needs)
     (λ c. search needs)
     (λ c. (search needs, search needs, search needs, search needs, search blocks-next))
+    (λ c. search needs)
     (λ c. search blocks-end))

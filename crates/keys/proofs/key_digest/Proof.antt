@@ -9,6 +9,7 @@ key-digest-spec =
     tie.close
     (tie.spec
     (λ c κs. (search needs, search needs, search needs, search split-room))
-    (λ c κs. (search needs, search needs, search needs, search held-room, search hash-room))
+    (λ c κs. (search needs, search needs, search needs, search needs, search held-room, search hash-room))
+    (λ c. search needs)
     (λ c. search needs)
     (λ c. search key-hashed))

@@ -13,7 +13,7 @@ long-key-spec =
     (λ c. search needs)
     (λ c. search needs)
     (λ c. search needs)
-    (λ c κs. (search needs, search needs, search needs, search needs, search lent-room, search needs))
+    (λ c κs. (search needs, search needs, search needs, search needs, search lent-room, search needs, search needs))
     (λ c κs. search needs)
     (λ c. search needs)
     (λ c. search long-made))
