@@ -1,7 +1,7 @@
 -- the digest in front of zeros
 use borrow.Author.Needs.{needs}
 use Rattle.sha1.proofs.Parts.{chain-room}
-use Rattle.keys.proofs.Held.{digest-made}
+use Rattle.keys.proofs.Long.{digest-made}
 use Rattle.keys.proofs.digest_block.Statement.{statement}
 use Rattle.keys.proofs.digest_block.Tie as tie
 

@@ -8,8 +8,9 @@ use Rattle.rules.specs.Hmac.{blocks}
 use Rattle.hash.specs.Hash.{hash}
 use Rattle.hash.proofs.Blocks.{Left, blocks-next, blocks-end, block-room}
 use Rattle.padding.specs.Whole.{blocksIn}
-use Rattle.keys.specs.Held.{held, padded}
-use Rattle.keys.proofs.Held.{hash-begins}
+use Rattle.key_words.specs.Held.{held}
+use Rattle.keys.specs.Padded.{padded}
+use Rattle.keys.proofs.Long.{hash-begins}
 use Rattle.keys.proofs.hash_key.Statement.{statement}
 use Rattle.keys.proofs.hash_key.Tie as tie
 

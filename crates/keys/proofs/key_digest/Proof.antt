@@ -1,6 +1,6 @@
 -- the key's words split, and then hashed
 use borrow.Author.Needs.{needs}
-use Rattle.keys.proofs.Held.{split-room, held-room, hash-room, key-hashed}
+use Rattle.keys.proofs.Long.{split-room, held-room, hash-room, key-hashed}
 use Rattle.keys.proofs.key_digest.Statement.{statement}
 use Rattle.keys.proofs.key_digest.Tie as tie
 

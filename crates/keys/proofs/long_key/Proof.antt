@@ -1,6 +1,6 @@
 -- the digest, from room for the last shares, into the key block
 use borrow.Author.Needs.{needs}
-use Rattle.keys.proofs.Held.{lent-room, long-made}
+use Rattle.keys.proofs.Long.{lent-room, long-made}
 use Rattle.keys.proofs.long_key.Statement.{statement}
 use Rattle.keys.proofs.long_key.Tie as tie
 

@@ -1,6 +1,6 @@
 -- the key's words, with the padding in share 1
 use borrow.Author.Needs.{needs}
-use Rattle.keys.proofs.Held.{marked-room, block-padded}
+use Rattle.keys.proofs.Long.{marked-room, block-padded}
 use Rattle.keys.proofs.padded_block.Statement.{statement}
 use Rattle.keys.proofs.padded_block.Tie as tie
 

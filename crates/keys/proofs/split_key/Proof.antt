@@ -1,6 +1,6 @@
 -- a key of at most one block, or a longer one
 use borrow.Author.Needs.{needs}
-use Rattle.keys.proofs.Held.{drawn-room, short-case, long-case}
+use Rattle.keys.proofs.Long.{drawn-room, short-case, long-case}
 use Rattle.keys.proofs.split_key.Statement.{statement}
 use Rattle.keys.proofs.split_key.Tie as tie
 

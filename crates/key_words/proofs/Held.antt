@@ -1,16 +1,16 @@
--- A long key in shares: the last shares that are kept, its words and blocks from them, and its digest.
+-- A key's words in shares: the last shares that are kept, and words and blocks from them.
 use Prim.Native.Nat.{ℕ, zero, suc, _+_, _-_, _*_, _/_, _^_, _≤_, _<_}
 use mathlib.Core.Path.{_≡_, refl, sym, ap, ap₂, _∙_}
 use mathlib.Core.Bool.{Bool, true, false}
 use mathlib.Core.List.{List, [], _∷_, _++_, map, append-assoc}
 use native.Mathlib.Numerals.{add-one}
 use native.Mathlib.Omega.{arith}
-use native.Mathlib.Nat.{add-zero, add-mul, suc-mul, zero-mul, mul-comm, mul-assoc, mul-le-mul-right, sub-zero}
+use native.Mathlib.Nat.{zero-add, add-zero, add-mul, suc-add, suc-mul, zero-mul, mul-comm, mul-assoc, mul-le-mul-right, sub-zero}
 use lib.Bits.{bitXor}
 use lib.Dec.{leb}
 use lib.ListN.{length, getD, set, take, drop, replicate, length-append, length-drop, length-replicate}
 use lib.Seq.{drop-cons, take-at, take-all, take-take, take-add, drop-drop, take-append-le, drop-append-le, drop-append-add}
-use lib.Seq.{getD-append-add}
+use lib.Seq.{take-nil}
 use mir.Syntax.{w64}
 use mir.Val.{Fits}
 use borrow.Author.Tests.{le-leb, lt-leb, leb-true, leb-false}
@@ -34,8 +34,8 @@ use Rattle.hash.specs.Hash.{hash}
 use Rattle.hash.proofs.Publics.{publics-part, start-used}
 use Rattle.hash.proofs.Blocks.{Left, blocks-begin, block-room}
 use Rattle.padding.specs.Whole.{blocksIn}
-use Rattle.keys.specs.Held.{lastShares, held, rounded, padded}
-use Rattle.keys.proofs.Split.{word-is}
+use Rattle.key_words.specs.Held.{lastShares, held}
+use Rattle.key_words.proofs.Words.{word-is}
 
 abbrev H : Hash
 H = SHA1 32
@@ -50,7 +50,7 @@ mask-made n at p r ws m few e f =
 
 -- ---- the last shares, one after the other
 module _ (n : ℕ) (ws : List ℕ) where
-  length-lasts : (vs : List ℕ) (at : ℕ) → length (lastShares n vs ws at) ≡ length vs
+  pub length-lasts : (vs : List ℕ) (at : ℕ) → length (lastShares n vs ws at) ≡ length vs
   unfolding lastShares
   length-lasts [] at = refl
   length-lasts (v ∷ vs) at = ap suc (length-lasts vs (at + (n - 1)))
@@ -117,6 +117,26 @@ module _ (i l d at have : ℕ) (h : i < l) (room : at + l * d ≤ have) where
   pub index-room : (m n : ℕ) → d ≡ n - 1 → m ≡ n → at + i * d + (m - 1) ≤ have
   index-room m n e f = rw (f, ← e) (omega (arith, mul-le-mul-right d h, suc-mul i d))
 
+-- ---- zeros after words: a part of so much is the same with more of them
+pub part-same : (d m room : ℕ) (s : List ℕ) → d + m ≤ room → take m (drop d (filled (d + m) s)) ≡ take m (drop d (filled room s))
+part-same d m room s h = part-of d (filled (d + m) s) ∙ ap (drop d) (front s (d + m) room h) ∙ sym (part-of d (filled room s))
+  where
+    part-of : (d : ℕ) (x : List ℕ) → take m (drop d x) ≡ drop d (take (d + m) x)
+    part-of zero x = rw zero-add
+    part-of (suc d) [] = rw (take-nil m, take-nil (suc d + m))
+    part-of (suc d) (a ∷ x) = rw (suc-add d m) (part-of d x)
+
+    front : (s : List ℕ) (r t : ℕ) → r ≤ t → take r (filled r s) ≡ take r (filled t s)
+    front [] r t h =
+        rw (sub-zero r, sub-zero t)
+        (rw (sub-zero r) at (lent-zeros r r (omega arith)) ∙ sym (rw (sub-zero r) at (lent-zeros t r h)))
+    front (a ∷ s) zero t h = refl
+    front (a ∷ s) (suc r) zero h = absurd (omega arith)
+    front (a ∷ s) (suc r) (suc t) h =
+        let one : suc r - suc (length s) ≡ r - length s = omega arith in
+        let other : suc t - suc (length s) ≡ t - length s = omega arith in
+        rw (one, other) (ap (λ (l : List ℕ). a ∷ l) (front s r t (omega arith)))
+
 -- ---- the words of the key, and zeros after them
 module _ (n : ℕ) (some : 0 < n) (ws : List ℕ) where
   -- the first word, and those after it
@@ -136,7 +156,7 @@ module _ (n : ℕ) (some : 0 < n) (ws : List ℕ) where
   length-one : (last at : ℕ) → length (one last at) ≡ n
   length-one last at = length-append (next (n - 1) ws at .0) (last ∷ []) ∙ omega (arith, next-rule (n - 1) .makes ws at)
 
-  length-held : (lasts : List ℕ) (at : ℕ) → length (held n lasts ws at) ≡ length lasts * n
+  pub length-held : (lasts : List ℕ) (at : ℕ) → length (held n lasts ws at) ≡ length lasts * n
   unfolding held
   length-held [] at = sym (zero-mul n)
   length-held (last ∷ lasts) at =
@@ -166,71 +186,51 @@ module _ (n : ℕ) (some : 0 < n) (ws : List ℕ) where
         let left : n ≤ length (drop (i * n) s) = rw (length-drop (i * n) s) (omega arith) in
         ap (take n) (drop-append-le (i * n) s z (omega arith)) ∙ take-append-le n (drop (i * n) s) z left ∙ held-at lasts at i h
 
-    word-zeros : (room : ℕ) → length lasts ≤ i → (i + 1) * n ≤ room → word n i (filled room s) ≡ replicate n 0
+    word-zeros : (room : ℕ) → length lasts ≤ i → i * n + n ≤ room → word n i (filled room s) ≡ replicate n 0
     unfolding word
     word-zeros room h l =
         let gap = i * n - length s in
         let many = room - length s in
         let past : length s ≤ i * n = omega (arith, length-held lasts at, mul-le-mul-right n h) in
         let place : i * n ≡ length s + gap = omega arith in
-        let rest : n ≤ many - gap = omega (arith, add-mul i 1 n) in
+        let rest : n ≤ many - gap = omega arith in
         ap (λ t. take n (drop t (filled room s))) place
         ∙ ap (take n) (drop-append-add s (replicate many 0) gap)
         ∙ ap (take n) (rw (sub-zero gap) at (zeros-after many gap (omega arith)))
         ∙ rw (sub-zero n) at (lent-zeros (many - gap) n rest)
 
     pub held-made : (m : ℕ) (z : List ℕ) → i < length lasts → m ≡ n
-        → z ≡ next (m - 1) ws (at + i * (n - 1)) .0 ++ (getD lasts i 0 ∷ []) → z ≡ word n i (filled ((i + 1) * n) s)
-    held-made m z h l e = e ∙ rw l (sym (word-held ((i + 1) * n) h))
+        → z ≡ next (m - 1) ws (at + i * (n - 1)) .0 ++ (getD lasts i 0 ∷ []) → z ≡ word n i (filled (i * n + n) s)
+    held-made m z h l e = e ∙ rw l (sym (word-held (i * n + n) h))
 
     pub zeros-made : (m : ℕ) (z : List ℕ) → length lasts ≤ i → m ≡ n → z ≡ replicate m 0
-        → z ≡ word n i (filled ((i + 1) * n) s)
-    zeros-made m z h e f = f ∙ rw e (sym (word-zeros ((i + 1) * n) h (omega arith)))
-
-    -- with more room it is the same word
-    word-same : (room : ℕ) → (i + 1) * n ≤ room → word n i (filled ((i + 1) * n) s) ≡ word n i (filled room s)
-    word-same room l = go (leb (length lasts) i) refl
-      where
-        go : (t : Bool) → leb (length lasts) i ≡ t → word n i (filled ((i + 1) * n) s) ≡ word n i (filled room s)
-        go true e =
-            let h = leb-true (length lasts) i e in
-            word-zeros ((i + 1) * n) h (omega arith) ∙ sym (word-zeros room h l)
-        go false e =
-            let h = leb-false (length lasts) i e in
-            word-held ((i + 1) * n) h ∙ sym (word-held room h)
+        → z ≡ word n i (filled (i * n + n) s)
+    zeros-made m z h e f = f ∙ rw e (sym (word-zeros (i * n + n) h (omega arith)))
 
 -- ---- block j of the key, word by word
-module _ (n : ℕ) (some : 0 < n) (bytes : ℕ) (lasts ws : List ℕ) (at j : ℕ) (inside : j < blocksIn bytes) where
-  abbrev pads : List ℕ
-  pads = ending H 0 (replicate bytes 0)
-
+module _ (n : ℕ) (lasts ws : List ℕ) (at j : ℕ) where
   abbrev whole : List ℕ
-  whole = rounded n bytes (held n lasts ws at)
+  whole = filled (j * (16 * n) + 16 * n) (held n lasts ws at)
 
   abbrev block : List ℕ
   block = take (16 * n) (drop (j * (16 * n)) whole)
-
-  pads-length : length pads ≡ 16 * blocksIn bytes
-  pads-length =
-      ending-length H (sha1-proper 32) 0 0 refl (replicate bytes 0) ∙ rw (length-replicate {A = ℕ} bytes 0)
 
   pub block-begins : (z : List ℕ) → take (0 * n) z ≡ take (0 * n) block
   block-begins z = rw (zero-mul n)
 
   pub block-next : (w : ℕ) (z y : List ℕ) → w < 16
-      → (let i = 16 * j + w in take (w * n + n) y ≡ take (w * n) z ++ word n i (filled ((i + 1) * n) (held n lasts ws at)))
+      → (let i = 16 * j + w in take (w * n + n) y ≡ take (w * n) z ++ word n i (filled (i * n + n) (held n lasts ws at)))
       → take (w * n) z ≡ take (w * n) block → take ((w + 1) * n) y ≡ take ((w + 1) * n) block
   unfolding word
   block-next w z y h e p =
       let i = 16 * j + w in
       let more : (w + 1) * n ≡ w * n + n = omega (arith, add-mul w 1 n) in
       let rest = drop (j * (16 * n)) whole in
-      let room : (i + 1) * n ≤ length pads * n = mul-le-mul-right n (omega (arith, pads-length)) in
       let fits : w * n + n ≤ 16 * n = omega (arith, mul-le-mul-right n h, suc-mul w n) in
       let place : j * (16 * n) + w * n ≡ i * n =
       omega (arith, add-mul (16 * j) w n, ap (λ t. t * n) (mul-comm 16 j) ∙ mul-assoc j 16 n) in
-      let same : word n i (filled ((i + 1) * n) (held n lasts ws at)) ≡ take n (drop (w * n) rest) =
-      word-same n some ws lasts at i (length pads * n) room
+      let same : word n i (filled (i * n + n) (held n lasts ws at)) ≡ take n (drop (w * n) rest) =
+      part-same (i * n) n (j * (16 * n) + 16 * n) (held n lasts ws at) (omega arith)
       ∙ ap (take n) (sym (drop-drop (w * n) (j * (16 * n)) whole ∙ ap (λ t. drop t whole) place)) in
       let front : take (w * n) z ≡ take (w * n) rest = p ∙ take-take (w * n) (16 * n) rest (omega arith) in
       rw more
@@ -242,106 +242,12 @@ module _ (n : ℕ) (some : 0 < n) (bytes : ℕ) (lasts ws : List ℕ) (at j : �
       let all : w ≡ 16 = omega arith in
       sym (take-all (16 * n) z (omega arith)) ∙ rw all at p ∙ take-take (16 * n) (16 * n) (drop (j * (16 * n)) whole) (omega arith)
 
-  -- with its padding
-  pub marked-room : (m r k : ℕ) → m ≡ 16 → r ≡ k → k ≡ 16 * n → r ≡ m * n
-  marked-room m r k e f g = rw e (f ∙ g)
-
-  pub block-padded : (z y values : List ℕ) → z ≡ block → values ≡ take 16 (drop (16 * j) pads) → y ≡ marked n values z
-      → y ≡ take (16 * n) (drop (j * (16 * n)) (padded n bytes (held n lasts ws at)))
-  unfolding marked
-  block-padded z y values e f g =
-      let place : 16 * j * n ≡ j * (16 * n) = ap (λ t. t * n) (mul-comm 16 j) ∙ mul-assoc j 16 n in
-      let shown : publics n (take 16 (drop (16 * j) pads)) ≡ take (16 * n) (drop (j * (16 * n)) (publics n pads)) =
-      sym (ap (λ t. take (16 * n) (drop t (publics n pads))) (sym place) ∙ publics-part n some 16 (16 * j) pads) in
-      g ∙ rw (e, f, shown)
-      (sym (ap (take (16 * n)) (each-drop bitXor (j * (16 * n)) whole (publics n pads))
-      ∙ each-take bitXor (16 * n) (drop (j * (16 * n)) whole) (drop (j * (16 * n)) (publics n pads))))
-
--- ---- the digest's words, then zero shares
-pub digest-made : (n m : ℕ) (chain zs d : List ℕ) → n ≤ largest → length (map (λ (v : ℕ). v) chain) ≡ 40 → m ≡ 16 * n
-    → zs ≡ replicate m 0 → d ≡ take (5 * n - 0) chain → d ++ drop (5 * n - 0) zs ≡ filled (16 * n) (used n chain)
-digest-made n m chain zs d few whole size e f =
-    let long : length (used n chain) ≡ 5 * n = length-used n chain few (chain-length chain whole) in
-    rw (e, f, used-lent n chain, size, zeros-after (16 * n) (5 * n) (omega arith), long)
-
--- ---- hashed, from the chain that starts a hash
-pub hash-begins : (n : ℕ) (ws W s : List ℕ) (count m p : ℕ) → 0 < n → s ≡ chainOf n (publics n H0) → count ≡ m
-    → Left n ws W count 0 (used n s) p ≡ blocks hash n m W (publics n H0) ws p
-hash-begins n ws W s count m p some e f =
-    rw (e, start-used n some) (blocks-begin n ws W count (blocks hash n m W (publics n H0) ws p) m p (publics n H0) f)
-
--- ---- the whole of it
-module _ (n : ℕ) (key ws : List ℕ) (at : ℕ) where
-  abbrev l : ℕ
-  l = length key
-
-  abbrev count : ℕ
-  count = (l + 3) / 4
-
-  long-draws : 64 < l → keyDraws hash n l ≡ count * (n - 1) + blocksIn l * hash .draws n
-  long-draws h = rw (lt-leb l 64 h)
-
-  module _ (m have : ℕ) (long : 64 < l) (many : m ≡ count) (room : at + keyDraws hash n l ≤ have) where
-    pub split-room : at + m * (n - 1) ≤ have
-    split-room = rw many (omega (arith, long-draws long))
-
-    pub held-room : (k : ℕ) → k ≡ m → at + k * (n - 1) ≤ have
-    held-room k e = rw e split-room
-
-    pub hash-room : (p : ℕ) → p ≡ at + m * (n - 1) → p + blocksIn l * hash .draws n ≤ have
-    hash-room p e = omega (arith, long-draws long, rw many at e)
-
-  splits-held : (vs : List ℕ) (at : ℕ) → splits n vs ws at ≡ (held n (lastShares n vs ws at) ws at, at + length vs * (n - 1))
-  unfolding splits split held lastShares
-  splits-held [] at = rw (zero-mul (n - 1), add-zero at)
-  splits-held (v ∷ vs) at =
-      let after : next (n - 1) ws at .1 ≡ at + (n - 1) = next-rule (n - 1) .place ws at in
-      let q : at + (n - 1) + length vs * (n - 1) ≡ at + suc (length vs) * (n - 1) = omega (arith, suc-mul (length vs) (n - 1)) in
-      rw (after, splits-held vs (at + (n - 1)), q)
-
-  pub key-hashed : (m p : ℕ) (lasts : List ℕ) {d : List ℕ} {q : ℕ} → m ≡ count → lasts ≡ lastShares n (keyWords H m key) ws at
-      → p ≡ at + m * (n - 1) → blocks hash n (blocksIn l) (padded n l (held n lasts ws at)) (publics n H0) ws p ≡ (d, q)
-      → hashKey hash n key ws at ≡ (filled (16 * n) d, q)
-  unfolding hashKey
-  key-hashed m p lasts {d} {q} e f g h =
-      let vs = keyWords H count key in
-      let many : length vs ≡ count = length-words 4 count (filled (count * 4) key) in
-      let made : blocks hash n (blocksIn l) (padded n l (held n (lastShares n vs ws at) ws at)) (publics n H0) ws
-      (at + length vs * (n - 1)) ≡ (d, q) = rw many (rw (f, g, e) at h) in
-      rw (splits-held vs at, pad-blocks H (sha1-proper 32) key, made)
-
-  -- ---- by the length of the key
-  pub lent-room : 64 < l → l ≤ longestKey → length {A = ℕ} (take (count - 0) (replicate 256 0)) ≡ count
-  lent-room h k = ap length (lent-zeros 256 count (omega arith)) ∙ length-replicate {A = ℕ} count 0
-
-  pub long-made : (d z : List ℕ) (q : ℕ) → hashKey hash n key ws at ≡ (d, q) → z ≡ d → hashKey hash n key ws at ≡ (z, q)
-  long-made d z q e f = e ∙ ap (λ (t : List ℕ). (t, q)) (sym f)
-
-  -- a key of one block is its own first block
-  pub short-room : (m have : ℕ) → m ≡ 16 → at + 16 * (n - 1) ≤ have → at + m * (n - 1) ≤ have
-  short-room m have e h = rw e h
-
-  pub short-made : (m p : ℕ) (lasts z : List ℕ) → 0 < n → m ≡ 16 → lasts ≡ lastShares n (keyWords H m key) ws at
-      → p ≡ at + m * (n - 1) → z ≡ take (16 * n) (drop (0 * (16 * n)) (rounded n 64 (held n lasts ws at)))
-      → splits n (keyWords H 16 key) ws at ≡ (z, p)
-  short-made m p lasts z some e f g h =
-      let vs = keyWords H 16 key in
-      let many : length vs ≡ 16 = length-words 4 16 (filled 64 key) in
-      let kept : lasts ≡ lastShares n vs ws at = f ∙ rw e in
-      let s = held n (lastShares n vs ws at) ws at in
-      let long : length s ≡ 16 * n = length-held n some ws (lastShares n vs ws at) at ∙ rw (length-lasts n ws vs at, many) in
-      let rest : List ℕ = replicate (length (ending H 0 (replicate 64 0)) * n - length s) 0 in
-      let is : z ≡ s = h ∙ rw (kept, zero-mul (16 * n)) (take-at s rest (16 * n) long) in
-      splits-held vs at ∙ rw (is, g, e, many)
-
-  module _ (short : l ≤ 64) where
-    pub drawn-room : (have : ℕ) → at + keyDraws hash n l ≤ have → at + 16 * (n - 1) ≤ have
-    drawn-room have h = rw (le-leb l 64 short) at h
-
-    pub short-case : (o : Run) → splits n (keyWords H 16 key) ws at ≡ o → splitKey hash n key ws at ≡ o
-    unfolding splitKey
-    short-case o e = rw (le-leb l 64 short) e
-
-  pub long-case : (o : Run) → 64 < l → hashKey hash n key ws at ≡ o → splitKey hash n key ws at ≡ o
-  unfolding splitKey
-  long-case o h e = rw (lt-leb l 64 h) e
+-- ---- the words in shares are those of the rule
+pub splits-held : (n : ℕ) (ws vs : List ℕ) (at : ℕ)
+    → splits n vs ws at ≡ (held n (lastShares n vs ws at) ws at, at + length vs * (n - 1))
+unfolding splits split held lastShares
+splits-held n ws [] at = rw (zero-mul (n - 1), add-zero at)
+splits-held n ws (v ∷ vs) at =
+    let after : next (n - 1) ws at .1 ≡ at + (n - 1) = next-rule (n - 1) .place ws at in
+    let q : at + (n - 1) + length vs * (n - 1) ≡ at + suc (length vs) * (n - 1) = omega (arith, suc-mul (length vs) (n - 1)) in
+    rw (after, splits-held n ws vs (at + (n - 1)), q)

@@ -6,10 +6,10 @@ use lib.ListN.{length, take, length-set}
 use Rattle.rules.specs.Hmac.{keyWords}
 use Rattle.hash.specs.Hash.{hash}
 use Rattle.hash.proofs.Blocks.{block-room}
-use Rattle.keys.specs.Held.{lastShares}
-use Rattle.keys.proofs.Held.{lasts-fits, lasts-next, lasts-end, lasts-place}
-use Rattle.keys.proofs.last_shares.Statement.{statement}
-use Rattle.keys.proofs.last_shares.Tie as tie
+use Rattle.key_words.specs.Held.{lastShares}
+use Rattle.key_words.proofs.Held.{lasts-fits, lasts-next, lasts-end, lasts-place}
+use Rattle.key_words.proofs.last_shares.Statement.{statement}
+use Rattle.key_words.proofs.last_shares.Tie as tie
 
 abbrev Inv-loop : tie.InvT-loop
 Inv-loop n key z₀ words at p₀ w₀ z p w =

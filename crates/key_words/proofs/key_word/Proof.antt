@@ -1,8 +1,8 @@
 -- four bytes of the key, the first one highest
 use borrow.Author.Needs.{needs}
-use Rattle.keys.proofs.Split.{number-made}
-use Rattle.keys.proofs.key_word.Statement.{statement}
-use Rattle.keys.proofs.key_word.Tie as tie
+use Rattle.key_words.proofs.Words.{number-made}
+use Rattle.key_words.proofs.key_word.Statement.{statement}
+use Rattle.key_words.proofs.key_word.Tie as tie
 
 pub key-word-spec : {M : Type 1} → statement M
 key-word-spec =

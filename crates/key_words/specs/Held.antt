@@ -1,14 +1,9 @@
--- A long key in shares. Of each word the last share alone takes room: the others stand in the supply, where they were
--- drawn.
-use Prim.Native.Nat.{ℕ, _+_, _-_, _*_}
+-- Words in shares, of which the last share alone takes room: the others stand in the supply, where they were drawn.
+use Prim.Native.Nat.{_+_, _-_}
 use mathlib.Core.List.{List, [], _∷_, _++_}
 use lib.Bits.{bitXor}
-use lib.ListN.{length, replicate}
 use Rattle.words.specs.Word.{Word}
 use Rattle.rules.specs.Supply.{Count, Place, Supply, Sharing, next, opened}
-use Rattle.rules.specs.Hash.{ending, filled}
-use Rattle.rules.specs.Hmac.{marked}
-use Rattle.hash.specs.Hash.{hash}
 
 -- the last shares of words that are split one after the other, from place `at` on
 unfoldable pub lastShares : Count → List Word → Supply → Place → List Word
@@ -19,10 +14,3 @@ lastShares n (v ∷ vs) ws at = bitXor v (opened (next (n - 1) ws at .0)) ∷ la
 unfoldable pub held : Count → List Word → Supply → Place → Sharing
 held n [] ws at = []
 held n (last ∷ lasts) ws at = (next (n - 1) ws at .0 ++ (last ∷ [])) ++ held n lasts ws (at + (n - 1))
-
--- a key of so many bytes, with zero shares up to its last block; and with its padding
-abbrev pub rounded : Count → ℕ → Sharing → Sharing
-rounded n bytes s = filled (length (ending (hash .standard) 0 (replicate bytes 0)) * n) s
-
-abbrev pub padded : Count → ℕ → Sharing → Sharing
-padded n bytes s = marked n (ending (hash .standard) 0 (replicate bytes 0)) (rounded n bytes s)

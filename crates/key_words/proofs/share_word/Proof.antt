@@ -1,8 +1,8 @@
 -- the words of the supply in front, and then the last share
 use borrow.Author.Needs.{needs}
-use Rattle.keys.proofs.Held.{share-made}
-use Rattle.keys.proofs.share_word.Statement.{statement}
-use Rattle.keys.proofs.share_word.Tie as tie
+use Rattle.key_words.proofs.Held.{share-made}
+use Rattle.key_words.proofs.share_word.Statement.{statement}
+use Rattle.key_words.proofs.share_word.Tie as tie
 
 pub share-word-spec : {M : Type 1} → statement M
 share-word-spec =

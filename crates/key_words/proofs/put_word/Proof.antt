@@ -1,8 +1,8 @@
 -- the part of word w holds the shares of a word of the key
 use borrow.Author.Needs.{needs}
-use Rattle.keys.proofs.Split.{part-length, part-put}
-use Rattle.keys.proofs.put_word.Statement.{statement}
-use Rattle.keys.proofs.put_word.Tie as tie
+use Rattle.key_words.proofs.Words.{part-length, part-put}
+use Rattle.key_words.proofs.put_word.Statement.{statement}
+use Rattle.key_words.proofs.put_word.Tie as tie
 
 pub put-word-spec : {M : Type 1} → statement M
 put-word-spec =

@@ -1,8 +1,8 @@
 -- the words drawn, opened
 use borrow.Author.Needs.{needs}
-use Rattle.keys.proofs.Held.{mask-made}
-use Rattle.keys.proofs.mask_at.Statement.{statement}
-use Rattle.keys.proofs.mask_at.Tie as tie
+use Rattle.key_words.proofs.Held.{mask-made}
+use Rattle.key_words.proofs.mask_at.Statement.{statement}
+use Rattle.key_words.proofs.mask_at.Tie as tie
 
 pub mask-at-spec : {M : Type 1} → statement M
 mask-at-spec =

@@ -1,8 +1,8 @@
 -- a word of the key, or zeros past its end
 use borrow.Author.Needs.{needs}
-use Rattle.keys.proofs.Held.{zeros-made, index-fits, place-fits, index-room, held-made}
-use Rattle.keys.proofs.held_word.Statement.{statement}
-use Rattle.keys.proofs.held_word.Tie as tie
+use Rattle.key_words.proofs.Held.{zeros-made, index-fits, place-fits, index-room, held-made}
+use Rattle.key_words.proofs.held_word.Statement.{statement}
+use Rattle.key_words.proofs.held_word.Tie as tie
 
 pub held-word-spec : {M : Type 1} → statement M
 held-word-spec =

@@ -1,0 +1,155 @@
+-- A key of one block, and a longer one: its blocks with their padding, its digest, and how many words it draws.
+use Prim.Native.Nat.{ℕ, zero, suc, _+_, _-_, _*_, _/_, _^_, _≤_, _<_}
+use mathlib.Core.Path.{_≡_, refl, sym, ap, ap₂, _∙_}
+use mathlib.Core.Bool.{Bool, true, false}
+use mathlib.Core.List.{List, [], _∷_, _++_, map, append-assoc}
+use native.Mathlib.Numerals.{add-one}
+use native.Mathlib.Omega.{arith}
+use native.Mathlib.Nat.{zero-add, add-zero, add-mul, suc-mul, zero-mul, mul-comm, mul-assoc, mul-le-mul-right, sub-zero}
+use lib.Bits.{bitXor}
+use lib.Dec.{leb}
+use lib.ListN.{length, getD, set, take, drop, replicate, length-append, length-drop, length-replicate}
+use lib.Seq.{drop-cons, take-at, take-all, take-take, take-add, drop-drop, take-append-le, drop-append-le, drop-append-add}
+use lib.Seq.{getD-append-add}
+use mir.Syntax.{w64}
+use mir.Val.{Fits}
+use borrow.Author.Tests.{le-leb, lt-leb, leb-true, leb-false}
+use Rattle.words.proofs.Stores.{filled-next, filled-end, set-last, lent-zeros}
+use Rattle.rules.specs.Supply.{next, opened, split}
+use Rattle.rules.specs.Numbers.{largest, longestKey}
+use Rattle.rules.specs.Hash.{Hash, numberOf, ending, filled}
+use Rattle.rules.specs.Standard.{SHA1, H0}
+use Rattle.rules.specs.Sha1.{word, publics, used, chainOf}
+use Rattle.rules.specs.Hmac.{splits, keyWords, marked, blocks, hashKey, splitKey}
+use Rattle.rules.specs.Counts.{keyDraws}
+use Rattle.rules.proofs.Loops.{Run, length-used, chain-length}
+use Rattle.rules.proofs.Rule.{next-rule}
+use Rattle.rules.proofs.Openings.{each-drop, each-take}
+use Rattle.rules.proofs.Bytes.{length-words}
+use Rattle.rules.proofs.Hashes.{ending-length}
+use Rattle.rules.proofs.Tags.{sha1-proper}
+use Rattle.rules.proofs.Keys.{pad-blocks}
+use Rattle.sha1.proofs.Parts.{used-lent, zeros-after}
+use Rattle.hash.specs.Hash.{hash}
+use Rattle.hash.proofs.Publics.{publics-part, start-used}
+use Rattle.hash.proofs.Blocks.{Left, blocks-begin, block-room}
+use Rattle.padding.specs.Whole.{blocksIn}
+use Rattle.key_words.specs.Held.{lastShares, held}
+use Rattle.key_words.proofs.Held.{part-same, length-lasts, length-held, splits-held}
+use Rattle.keys.specs.Padded.{padded}
+
+abbrev H : Hash
+H = SHA1 32
+
+-- ---- block j of a key with its padding
+pub marked-room : (n m r k : ℕ) → m ≡ 16 → r ≡ k → k ≡ 16 * n → r ≡ m * n
+marked-room n m r k e f g = rw e (f ∙ g)
+
+module _ (n : ℕ) (some : 0 < n) (bytes : ℕ) (lasts ws : List ℕ) (at j : ℕ) (inside : j < blocksIn bytes) where
+  abbrev pads : List ℕ
+  pads = ending H 0 (replicate bytes 0)
+
+  abbrev s : List ℕ
+  s = held n lasts ws at
+
+  abbrev whole : List ℕ
+  whole = filled (length pads * n) s
+
+  pub block-padded : (z y values : List ℕ) → z ≡ take (16 * n) (drop (j * (16 * n)) (filled (j * (16 * n) + 16 * n) s))
+      → values ≡ take 16 (drop (16 * j) pads) → y ≡ marked n values z
+      → y ≡ take (16 * n) (drop (j * (16 * n)) (padded n bytes s))
+  unfolding marked
+  block-padded z y values e f g =
+      let many : length pads ≡ 16 * blocksIn bytes =
+      ending-length H (sha1-proper 32) 0 0 refl (replicate bytes 0) ∙ rw (length-replicate {A = ℕ} bytes 0) in
+      let place : 16 * j * n ≡ j * (16 * n) = ap (λ t. t * n) (mul-comm 16 j) ∙ mul-assoc j 16 n in
+      let room : j * (16 * n) + 16 * n ≤ length pads * n =
+      let all : (16 * j + 16) * n ≤ length pads * n = mul-le-mul-right n (omega (arith, many)) in
+      omega (arith, place, add-mul (16 * j) 16 n) in
+      let part = part-same (j * (16 * n)) (16 * n) (length pads * n) s room in
+      let shown : publics n (take 16 (drop (16 * j) pads)) ≡ take (16 * n) (drop (j * (16 * n)) (publics n pads)) =
+      sym (ap (λ t. take (16 * n) (drop t (publics n pads))) (sym place) ∙ publics-part n some 16 (16 * j) pads) in
+      g ∙ rw (e, part, f, shown)
+      (sym (ap (take (16 * n)) (each-drop bitXor (j * (16 * n)) whole (publics n pads))
+      ∙ each-take bitXor (16 * n) (drop (j * (16 * n)) whole) (drop (j * (16 * n)) (publics n pads))))
+
+-- ---- the digest's words, then zero shares
+pub digest-made : (n m : ℕ) (chain zs d : List ℕ) → n ≤ largest → length (map (λ (v : ℕ). v) chain) ≡ 40 → m ≡ 16 * n
+    → zs ≡ replicate m 0 → d ≡ take (5 * n - 0) chain → d ++ drop (5 * n - 0) zs ≡ filled (16 * n) (used n chain)
+digest-made n m chain zs d few whole size e f =
+    let long : length (used n chain) ≡ 5 * n = length-used n chain few (chain-length chain whole) in
+    rw (e, f, used-lent n chain, size, zeros-after (16 * n) (5 * n) (omega arith), long)
+
+-- ---- hashed, from the chain that starts a hash
+pub hash-begins : (n : ℕ) (ws W s : List ℕ) (count m p : ℕ) → 0 < n → s ≡ chainOf n (publics n H0) → count ≡ m
+    → Left n ws W count 0 (used n s) p ≡ blocks hash n m W (publics n H0) ws p
+hash-begins n ws W s count m p some e f =
+    rw (e, start-used n some) (blocks-begin n ws W count (blocks hash n m W (publics n H0) ws p) m p (publics n H0) f)
+
+-- ---- the whole of it
+module _ (n : ℕ) (key ws : List ℕ) (at : ℕ) where
+  abbrev l : ℕ
+  l = length key
+
+  abbrev count : ℕ
+  count = (l + 3) / 4
+
+  long-draws : 64 < l → keyDraws hash n l ≡ count * (n - 1) + blocksIn l * hash .draws n
+  long-draws h = rw (lt-leb l 64 h)
+
+  module _ (m have : ℕ) (long : 64 < l) (many : m ≡ count) (room : at + keyDraws hash n l ≤ have) where
+    pub split-room : at + m * (n - 1) ≤ have
+    split-room = rw many (omega (arith, long-draws long))
+
+    pub held-room : (k : ℕ) → k ≡ m → at + k * (n - 1) ≤ have
+    held-room k e = rw e split-room
+
+    pub hash-room : (p : ℕ) → p ≡ at + m * (n - 1) → p + blocksIn l * hash .draws n ≤ have
+    hash-room p e = omega (arith, long-draws long, rw many at e)
+
+  pub key-hashed : (m p : ℕ) (lasts : List ℕ) {d : List ℕ} {q : ℕ} → m ≡ count → lasts ≡ lastShares n (keyWords H m key) ws at
+      → p ≡ at + m * (n - 1) → blocks hash n (blocksIn l) (padded n l (held n lasts ws at)) (publics n H0) ws p ≡ (d, q)
+      → hashKey hash n key ws at ≡ (filled (16 * n) d, q)
+  unfolding hashKey
+  key-hashed m p lasts {d} {q} e f g h =
+      let vs = keyWords H count key in
+      let many : length vs ≡ count = length-words 4 count (filled (count * 4) key) in
+      let made : blocks hash n (blocksIn l) (padded n l (held n (lastShares n vs ws at) ws at)) (publics n H0) ws
+      (at + length vs * (n - 1)) ≡ (d, q) = rw many (rw (f, g, e) at h) in
+      rw (splits-held n ws vs at, pad-blocks H (sha1-proper 32) key, made)
+
+  -- ---- by the length of the key
+  pub lent-room : 64 < l → l ≤ longestKey → length {A = ℕ} (take (count - 0) (replicate 256 0)) ≡ count
+  lent-room h k = ap length (lent-zeros 256 count (omega arith)) ∙ length-replicate {A = ℕ} count 0
+
+  pub long-made : (d z : List ℕ) (q : ℕ) → hashKey hash n key ws at ≡ (d, q) → z ≡ d → hashKey hash n key ws at ≡ (z, q)
+  long-made d z q e f = e ∙ ap (λ (t : List ℕ). (t, q)) (sym f)
+
+  -- a key of one block is its own first block
+  pub short-room : (m have : ℕ) → m ≡ 16 → at + 16 * (n - 1) ≤ have → at + m * (n - 1) ≤ have
+  short-room m have e h = rw e h
+
+  pub short-made : (m p : ℕ) (lasts z : List ℕ) → 0 < n → m ≡ 16 → lasts ≡ lastShares n (keyWords H m key) ws at
+      → p ≡ at + m * (n - 1) → z ≡ take (16 * n) (drop (0 * (16 * n)) (filled (0 * (16 * n) + 16 * n) (held n lasts ws at)))
+      → splits n (keyWords H 16 key) ws at ≡ (z, p)
+  short-made m p lasts z some e f g h =
+      let vs = keyWords H 16 key in
+      let many : length vs ≡ 16 = length-words 4 16 (filled 64 key) in
+      let kept : lasts ≡ lastShares n vs ws at = f ∙ rw e in
+      let s = held n (lastShares n vs ws at) ws at in
+      let long : length s ≡ 16 * n = length-held n some ws (lastShares n vs ws at) at ∙ rw (length-lasts n ws vs at, many) in
+      let rest : List ℕ = replicate (16 * n - length s) 0 in
+      let is : z ≡ s = h ∙ rw (kept, zero-mul (16 * n), zero-add) (take-at s rest (16 * n) long) in
+      splits-held n ws vs at ∙ rw (is, g, e, many)
+
+  module _ (short : l ≤ 64) where
+    pub drawn-room : (have : ℕ) → at + keyDraws hash n l ≤ have → at + 16 * (n - 1) ≤ have
+    drawn-room have h = rw (le-leb l 64 short) at h
+
+    pub short-case : (o : Run) → splits n (keyWords H 16 key) ws at ≡ o → splitKey hash n key ws at ≡ o
+    unfolding splitKey
+    short-case o e = rw (le-leb l 64 short) e
+
+  pub long-case : (o : Run) → 64 < l → hashKey hash n key ws at ≡ o → splitKey hash n key ws at ≡ o
+  unfolding splitKey
+  long-case o h e = rw (lt-leb l 64 h) e
