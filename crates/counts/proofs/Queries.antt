@@ -138,26 +138,22 @@ module _ (n : ℕ) (each : Answer) (e : query (test 1 (allowed n) ∷ []) (compr
 
 -- ---- splitting a key of l bytes, with n shares
 module _ (n l : ℕ) (count : allowed n ≡ true) (short : l ≤ longestKey) where
-  abbrev blocks : ℕ
-  blocks = (l + 8) / 64 + 1
-
   pub key-product : (l + 3) / 4 * (n - 1) ≤ 1792
   key-product =
       let most-words : (l + 3) / 4 ≤ 256 = omega arith in
       let most-each : n - 1 ≤ 7 = omega (arith, few n count) in
       mul-le-mul most-words most-each
 
-  pub key-sum : (hashed : ℕ) → hashed ≡ blocks * compressDraws 32 n → (l + 3) / 4 * (n - 1) + hashed < 2 ^ 64
-  key-sum hashed e =
+  pub key-sum : (hashed m : ℕ) → hashed ≡ m * compressDraws 32 n → m ≤ 17 → (l + 3) / 4 * (n - 1) + hashed < 2 ^ 64
+  key-sum hashed m e h =
       let each : n - 1 ≤ 7 = omega (arith, few n count) in
       let pairs : n * (n - 1) ≤ 56 = mul-le-mul (few n count) each in
       let one : compressDraws 32 n ≤ most = rw (compress-count n) (omega (arith, pairs)) in
-      let some-blocks : blocks ≤ 17 = omega arith in
-      omega (arith, key-product, mul-le-mul some-blocks one)
+      omega (arith, key-product, mul-le-mul h one)
 
   pub short-draws : l ≤ 64 → 16 * (n - 1) ≡ keyDraws (sha1 32) n l
   short-draws h = rw (le-leb l 64 h)
 
-  pub long-draws : (hashed : ℕ) → 64 < l → hashed ≡ blocks * compressDraws 32 n
+  pub long-draws : (hashed : ℕ) → 64 < l → hashed ≡ ((l + 8) / 64 + 1) * compressDraws 32 n
       → (l + 3) / 4 * (n - 1) + hashed ≡ keyDraws (sha1 32) n l
   long-draws hashed h e = rw (lt-leb l 64 h, e)

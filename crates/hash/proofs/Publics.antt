@@ -3,7 +3,7 @@ use Prim.Native.Nat.{ℕ, zero, suc, _+_, _-_, _*_, _≤_, _<_}
 use mathlib.Core.Path.{_≡_, refl, sym, ap, ap₂, _∙_}
 use mathlib.Core.List.{List, [], _∷_, _++_}
 use native.Mathlib.Omega.{arith}
-use native.Mathlib.Nat.{mul-le-mul-right, suc-add, suc-mul, zero-add, zero-mul}
+use native.Mathlib.Nat.{mul-le-mul-left, mul-le-mul-right, suc-add, suc-mul, zero-add, zero-mul}
 use native.Mathlib.Numerals.{add-one}
 use lib.Bits.{bitXor}
 use lib.ListN.{length, getD, set, take, drop, replicate, length-append, length-drop, length-set, length-replicate, take-append-drop}
@@ -23,8 +23,8 @@ use Rattle.sha1.proofs.Parts.{zeros-after}
 pub place-room : (m n w : ℕ) → w < m → w * n + n ≤ m * n
 place-room m n w h = omega (arith, mul-le-mul-right n h, suc-mul w n)
 
-pub place-in : (m n w l : ℕ) → 0 < n → w < m → l ≡ m * n → w * n < l
-place-in m n w l some h e = omega (arith, place-room m n w h)
+pub place-in : (m n k w l : ℕ) → 0 < n → k ≤ n → w < m → l ≡ m * n → w * k < l
+place-in m n k w l some few h e = omega (arith, place-room m n w h, mul-le-mul-left w few)
 
 -- sixteen words have room in a block
 pub public-room : (n l m : ℕ) → l ≡ 16 → m ≡ 16 * n → m ≡ l * n
@@ -41,14 +41,10 @@ unfoldable pub marking : ℕ → List ℕ → ℕ → List ℕ → List ℕ
 marking n [] i z = z
 marking n (v ∷ vs) i z = marking n vs (suc i) (set z (i * n) (bitXor (getD z (i * n) 0) v))
 
-module _ (n : ℕ) (vs z : List ℕ) where
-  pub marking-begins : marking n (drop 0 vs) 0 z ≡ marking n vs 0 z
-  marking-begins = refl
-
-  pub marking-next : (w v : ℕ) (y e : List ℕ) → w < length vs → v ≡ getD vs w 0
-      → y ≡ set z (w * n) (bitXor (getD z (w * n) 0) v) → marking n (drop w vs) w z ≡ e → marking n (drop (w + 1) vs) (w + 1) y ≡ e
-  unfolding marking
-  marking-next w v y e h f g p = rw (g, f, add-one w) (rw (drop-cons vs w 0 h) at p)
+pub marking-next : (n : ℕ) (vs z : List ℕ) (w v : ℕ) (y e : List ℕ) → w < length vs → v ≡ getD vs w 0
+    → y ≡ set z (w * n) (bitXor (getD z (w * n) 0) v) → marking n (drop w vs) w z ≡ e → marking n (drop (w + 1) vs) (w + 1) y ≡ e
+unfolding marking
+marking-next n vs z w v y e h f g p = rw (g, f, add-one w) (rw (drop-cons vs w 0 h) at p)
 
 -- the words in front stay
 module _ (n : ℕ) (some : 0 < n) where

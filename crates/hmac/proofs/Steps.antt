@@ -1,11 +1,11 @@
 -- The steps of HMAC, each made from its parts, and how many words they draw.
-use Prim.Native.Nat.{ℕ, suc, _+_, _-_, _*_, _/_, _≤_, _<_}
+use Prim.Native.Nat.{ℕ, _+_, _-_, _*_, _/_, _≤_, _<_}
 use mathlib.Core.Path.{_≡_, refl, sym, ap, _∙_}
 use mathlib.Core.List.{List, [], _∷_, _++_, append-nil}
 use native.Mathlib.Omega.{arith}
-use native.Mathlib.Nat.{add-mul, mul-comm, mul-assoc, sub-zero, zero-mul}
+use native.Mathlib.Nat.{add-mul, mul-comm, mul-assoc, sub-zero}
 use lib.ListN.{length, take, drop, replicate, length-drop, drop-of-length-le}
-use lib.Seq.{take-at, drop-at, drop-drop}
+use lib.Seq.{take-at, drop-at}
 use Rattle.rules.specs.Hash.{bytesOf, numberOf, wordsOf, zeros, padding, allBytes, ending}
 use Rattle.rules.specs.Standard.{SHA1, H0}
 use Rattle.rules.specs.Sha1.{publics, openWords, used, chainOf}

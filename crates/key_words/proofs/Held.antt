@@ -1,39 +1,27 @@
 -- A key's words in shares: the last shares that are kept, and words and blocks from them.
-use Prim.Native.Nat.{ℕ, zero, suc, _+_, _-_, _*_, _/_, _^_, _≤_, _<_}
+use Prim.Native.Nat.{ℕ, zero, suc, _+_, _-_, _*_, _^_, _≤_, _<_}
 use mathlib.Core.Path.{_≡_, refl, sym, ap, ap₂, _∙_}
-use mathlib.Core.Bool.{Bool, true, false}
-use mathlib.Core.List.{List, [], _∷_, _++_, map, append-assoc}
+use mathlib.Core.List.{List, [], _∷_, _++_}
 use native.Mathlib.Numerals.{add-one}
 use native.Mathlib.Omega.{arith}
 use native.Mathlib.Nat.{zero-add, add-zero, add-mul, suc-add, suc-mul, zero-mul, mul-comm, mul-assoc, mul-le-mul-right, sub-zero}
 use lib.Bits.{bitXor}
-use lib.Dec.{leb}
 use lib.ListN.{length, getD, set, take, drop, replicate, length-append, length-drop, length-replicate}
 use lib.Seq.{drop-cons, take-at, take-all, take-take, take-add, drop-drop, take-append-le, drop-append-le, drop-append-add}
 use lib.Seq.{take-nil}
 use mir.Syntax.{w64}
 use mir.Val.{Fits}
-use borrow.Author.Tests.{le-leb, lt-leb, leb-true, leb-false}
 use Rattle.words.proofs.Stores.{filled-next, filled-end, set-last, lent-zeros}
 use Rattle.rules.specs.Supply.{next, opened, split}
-use Rattle.rules.specs.Numbers.{largest, longestKey}
-use Rattle.rules.specs.Hash.{Hash, numberOf, ending, filled}
-use Rattle.rules.specs.Standard.{SHA1, H0}
-use Rattle.rules.specs.Sha1.{word, publics, used, chainOf}
-use Rattle.rules.specs.Hmac.{splits, keyWords, marked, blocks, hashKey, splitKey}
-use Rattle.rules.specs.Counts.{keyDraws}
-use Rattle.rules.proofs.Loops.{Run, length-used, chain-length}
+use Rattle.rules.specs.Hash.{Hash, numberOf, filled}
+use Rattle.rules.specs.Standard.{SHA1}
+use Rattle.rules.specs.Sha1.{word}
+use Rattle.rules.specs.Hmac.{splits, keyWords, blocks}
+use Rattle.rules.proofs.Loops.{Run}
 use Rattle.rules.proofs.Rule.{next-rule}
-use Rattle.rules.proofs.Openings.{each-drop, each-take}
 use Rattle.rules.proofs.Bytes.{length-words}
-use Rattle.rules.proofs.Hashes.{ending-length}
-use Rattle.rules.proofs.Tags.{sha1-proper}
-use Rattle.rules.proofs.Keys.{pad-blocks}
-use Rattle.sha1.proofs.Parts.{used-lent, zeros-after}
-use Rattle.hash.specs.Hash.{hash}
-use Rattle.hash.proofs.Publics.{publics-part, start-used}
-use Rattle.hash.proofs.Blocks.{Left, blocks-begin, block-room}
-use Rattle.padding.specs.Whole.{blocksIn}
+use Rattle.sha1.proofs.Parts.{zeros-after}
+use Rattle.hash.proofs.Blocks.{block-room}
 use Rattle.key_words.specs.Held.{lastShares, held}
 use Rattle.key_words.proofs.Words.{word-is}
 
@@ -106,6 +94,7 @@ share-made last at z ws d some room e =
     let q : at + m - at ≡ m = omega arith in
     let is : d ≡ next m ws at .0 = e ∙ rw q (sym (next-part ws m at room)) in
     rw (sub-zero m, is) (set-last (next m ws at .0) z last m (next-rule m .makes ws at) (omega arith))
+
 -- where word i of so many stands
 module _ (i l d at have : ℕ) (h : i < l) (room : at + l * d ≤ have) where
   pub index-fits : have * 4 < 2 ^ 63 → Fits w64 (i * d)

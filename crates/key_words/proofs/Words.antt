@@ -1,18 +1,14 @@
 -- A key's words by place, and a word of several, stored.
 use Prim.Native.Nat.{ℕ, zero, suc, _+_, _-_, _*_, _≤_, _<_}
-use mathlib.Core.Path.{_≡_, refl, sym, ap, _∙_}
-use mathlib.Core.List.{List, [], _∷_, _++_, append-nil, append-assoc}
+use mathlib.Core.Path.{_≡_, refl, sym, _∙_}
+use mathlib.Core.List.{List, [], _∷_, _++_, append-assoc}
 use native.Mathlib.Omega.{arith}
-use native.Mathlib.Nat.{add-zero, add-mul, suc-mul, zero-mul}
-use native.Mathlib.Numerals.{add-one}
-use lib.ListN.{length, getD, take, drop, replicate, length-append, length-drop, drop-of-length-le}
-use lib.Seq.{take-at, take-all, drop-cons, getD-drop, length-take-le}
-use Rattle.rules.specs.Supply.{next, split}
-use Rattle.rules.specs.Hash.{Hash, numberOf, wordsOf, filled}
+use native.Mathlib.Nat.{add-zero}
+use lib.ListN.{length, getD, take, drop, replicate, length-append, length-drop}
+use lib.Seq.{take-at, getD-drop, length-take-le}
+use Rattle.rules.specs.Hash.{Hash, numberOf, filled}
 use Rattle.rules.specs.Standard.{SHA1}
-use Rattle.rules.specs.Hmac.{splits, keyWords}
-use Rattle.rules.proofs.Rule.{next-rule}
-use Rattle.rules.proofs.Bytes.{length-words}
+use Rattle.rules.specs.Hmac.{keyWords}
 use Rattle.padding.proofs.Padded.{word-of}
 
 abbrev H : Hash

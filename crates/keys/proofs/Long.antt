@@ -1,29 +1,21 @@
 -- A key of one block, and a longer one: its blocks with their padding, its digest, and how many words it draws.
-use Prim.Native.Nat.{ℕ, zero, suc, _+_, _-_, _*_, _/_, _^_, _≤_, _<_}
-use mathlib.Core.Path.{_≡_, refl, sym, ap, ap₂, _∙_}
-use mathlib.Core.Bool.{Bool, true, false}
-use mathlib.Core.List.{List, [], _∷_, _++_, map, append-assoc}
-use native.Mathlib.Numerals.{add-one}
+use Prim.Native.Nat.{ℕ, zero, _+_, _-_, _*_, _/_, _≤_, _<_}
+use mathlib.Core.Path.{_≡_, refl, sym, ap, _∙_}
+use mathlib.Core.List.{List, _++_, map}
 use native.Mathlib.Omega.{arith}
-use native.Mathlib.Nat.{zero-add, add-zero, add-mul, suc-mul, zero-mul, mul-comm, mul-assoc, mul-le-mul-right, sub-zero}
+use native.Mathlib.Nat.{zero-add, add-mul, zero-mul, mul-comm, mul-assoc, mul-le-mul-right}
 use lib.Bits.{bitXor}
-use lib.Dec.{leb}
-use lib.ListN.{length, getD, set, take, drop, replicate, length-append, length-drop, length-replicate}
-use lib.Seq.{drop-cons, take-at, take-all, take-take, take-add, drop-drop, take-append-le, drop-append-le, drop-append-add}
-use lib.Seq.{getD-append-add}
-use mir.Syntax.{w64}
-use mir.Val.{Fits}
-use borrow.Author.Tests.{le-leb, lt-leb, leb-true, leb-false}
-use Rattle.words.proofs.Stores.{filled-next, filled-end, set-last, lent-zeros}
-use Rattle.rules.specs.Supply.{next, opened, split}
+use lib.ListN.{length, take, drop, replicate, length-replicate}
+use lib.Seq.{take-at}
+use borrow.Author.Tests.{le-leb, lt-leb}
+use Rattle.words.proofs.Stores.{lent-zeros}
 use Rattle.rules.specs.Numbers.{largest, longestKey}
-use Rattle.rules.specs.Hash.{Hash, numberOf, ending, filled}
+use Rattle.rules.specs.Hash.{Hash, ending, filled}
 use Rattle.rules.specs.Standard.{SHA1, H0}
-use Rattle.rules.specs.Sha1.{word, publics, used, chainOf}
+use Rattle.rules.specs.Sha1.{publics, used, chainOf}
 use Rattle.rules.specs.Hmac.{splits, keyWords, marked, blocks, hashKey, splitKey}
 use Rattle.rules.specs.Counts.{keyDraws}
 use Rattle.rules.proofs.Loops.{Run, length-used, chain-length}
-use Rattle.rules.proofs.Rule.{next-rule}
 use Rattle.rules.proofs.Openings.{each-drop, each-take}
 use Rattle.rules.proofs.Bytes.{length-words}
 use Rattle.rules.proofs.Hashes.{ending-length}
@@ -32,7 +24,7 @@ use Rattle.rules.proofs.Keys.{pad-blocks}
 use Rattle.sha1.proofs.Parts.{used-lent, zeros-after}
 use Rattle.hash.specs.Hash.{hash}
 use Rattle.hash.proofs.Publics.{publics-part, start-used}
-use Rattle.hash.proofs.Blocks.{Left, blocks-begin, block-room}
+use Rattle.hash.proofs.Blocks.{Left, blocks-begin}
 use Rattle.padding.specs.Whole.{blocksIn}
 use Rattle.key_words.specs.Held.{lastShares, held}
 use Rattle.key_words.proofs.Held.{part-same, length-lasts, length-held, splits-held}

@@ -40,7 +40,15 @@ fn short_key(n: usize, key: &[u8], shares: &mut [u32], words: &[u32], at: usize)
 // ---- a longer key
 
 // z becomes block j of a key of so many bytes, with its padding.
-fn padded_block(n: usize, bytes: usize, lasts: &[u32], j: usize, z: &mut [u32], words: &[u32], at: usize)
+fn padded_block(
+    n: usize,
+    bytes: usize,
+    lasts: &[u32],
+    j: usize,
+    z: &mut [u32],
+    words: &[u32],
+    at: usize,
+)
     requires { ⌜ (0 < n) × (bytes ≤ longestKey) × (j < blocksIn bytes) × (length (now z) ≡ 16 * n)
         × (at + length (now lasts) * (n - 1) ≤ length (now words)) ⌝ }
     ensures { λ _. ⌜ now (z .exit)
@@ -54,7 +62,15 @@ fn padded_block(n: usize, bytes: usize, lasts: &[u32], j: usize, z: &mut [u32], 
 
 // The key of so many bytes, hashed from the word at p on. Its words were split from the word at `at` on. `block` is room
 // for one.
-fn hash_key(n: usize, bytes: usize, lasts: &[u32], block: &mut [u32], words: &[u32], at: usize, p: usize) -> Stepped
+fn hash_key(
+    n: usize,
+    bytes: usize,
+    lasts: &[u32],
+    block: &mut [u32],
+    words: &[u32],
+    at: usize,
+    p: usize,
+) -> Stepped
     requires { ⌜ (0 < n) × (n ≤ largest) × (bytes ≤ longestKey) × (length (now block) ≡ 16 * n)
         × (at + length (now lasts) * (n - 1) ≤ length (now words))
         × (p + blocksIn bytes * hash .draws n ≤ length (now words)) ⌝ }
@@ -90,7 +106,14 @@ fn digest_block(n: usize, chain: Chain, z: &mut [u32])
 }
 
 // The key's words split, then hashed, from the word at `at` on. `lasts` is room for the last shares, `block` for a block.
-fn key_digest(n: usize, key: &[u8], lasts: &mut [u32], block: &mut [u32], words: &[u32], at: usize) -> Stepped
+fn key_digest(
+    n: usize,
+    key: &[u8],
+    lasts: &mut [u32],
+    block: &mut [u32],
+    words: &[u32],
+    at: usize,
+) -> Stepped
     requires { ⌜ (0 < n) × (n ≤ largest) × (64 < length (now key)) × (length (now key) ≤ longestKey)
         × (length (now lasts) ≡ (length (now key) + 3) / 4) × (length (now block) ≡ 16 * n)
         × (at + keyDraws hash n (length (now key)) ≤ length (now words)) ⌝ }
@@ -122,8 +145,8 @@ pub fn split_key(n: usize, key: &[u8], shares: &mut [u32], words: &[u32], at: us
         × (at + keyDraws hash n (length (now key)) ≤ length (now words)) ⌝ }
     ensures { λ r. ⌜ splitKey hash n (now (key .entry)) (now (words .entry)) at ≡ (now (shares .exit), r) ⌝ }
 {
-    if key.len() <= BLOCK_BYTES {
-        return short_key(n, key, shares, words, at);
+    if BLOCK_BYTES < key.len() {
+        return long_key(n, key, shares, words, at);
     }
-    long_key(n, key, shares, words, at)
+    short_key(n, key, shares, words, at)
 }

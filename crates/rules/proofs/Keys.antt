@@ -1,30 +1,29 @@
 -- A key in shares: what splitting it makes, over any hash in shares. Of any Good that the hash keeps, its shares are Good
 -- for the words of RFC 2104's key block.
-use Prim.Native.Nat.{ℕ, zero, suc, _+_, _-_, _*_, _/_, _^_, _≤_, _<_}
+use Prim.Native.Nat.{ℕ, zero, suc, _+_, _-_, _*_, _/_, _≤_, _<_}
 use mathlib.Core.Path.{_≡_, refl, sym, ap, ap₂, _∙_, subst}
 use mathlib.Core.Bool.{Bool, true, false}
 use mathlib.Core.List.{List, [], _∷_, _++_, append-assoc, append-nil}
-use native.Mathlib.Nat.{suc-mul, zero-mul, add-mul, mul-comm, mul-le-mul-right, mul-assoc, div-lt-iff-lt-mul, mul-div-left, mul-div-right, mod-lt, div-add-mod'}
+use native.Mathlib.Nat.{suc-mul, zero-mul, add-mul, mul-comm, mul-assoc, div-lt-iff-lt-mul, mul-div-left, mul-div-right, mod-lt, div-add-mod'}
 use native.Mathlib.Omega.{arith}
 use lib.Bits.{bitXor, xor-zero-r}
 use lib.Dec.{leb, lit<}
 use lib.ListN.{length, getD, replicate, length-append, length-replicate, replicate-append-replicate}
 use lib.Pow.{pow-pos}
-use borrow.Author.Tests.{leb-false}
-use Rattle.rules.specs.Supply.{Draw, Rule, Words}
+use Rattle.rules.specs.Supply.{Rule, Words}
 use Rattle.rules.specs.Numbers.{choose}
 use Rattle.rules.specs.Shares.{each}
 use Rattle.rules.specs.Hash.{Hash, blockBytes, chainWords, wordsOf, allBytes, padding, ended, ending, filled, digest, keyBlock}
-use Rattle.rules.specs.Hash.{numberOf, blocks as blocksOf}
-use Rattle.rules.specs.Sha1.{public, publics}
-use Rattle.rules.specs.Hmac.{Masked, splits, marked, blocks, keyWords, wordsFor, hashKey, splitKey}
+use Rattle.rules.specs.Hash.{blocks as blocksOf}
+use Rattle.rules.specs.Sha1.{public}
+use Rattle.rules.specs.Hmac.{Masked, splits, marked, keyWords, wordsFor, hashKey, splitKey}
 use Rattle.rules.specs.Counts.{keyDraws}
 use Rattle.rules.proofs.Rule.{give, bind, said, counted}
 use Rattle.rules.proofs.Openings.{each-append}
-use Rattle.rules.proofs.Bytes.{words-join, words-zeros, bytes-alike, words-append, words-back, words-xor, words-alike}
+use Rattle.rules.proofs.Bytes.{words-join, words-zeros, words-append, words-back, words-xor, words-alike}
 use Rattle.rules.proofs.Bytes.{number-zeros, length-words, length-allBytes, padding-is-bytes}
 use Rattle.rules.proofs.Goods.{Goods, none, more, join, how-many, goods-size}
-use Rattle.rules.proofs.Hashes.{Proper, Chains, ended-length, ending-length, ending-blocks, ending-words, digest-chain}
+use Rattle.rules.proofs.Hashes.{Proper, Chains, ended-length, ending-length, ending-words, digest-chain}
 use Rattle.rules.proofs.MaskedHmac.{Keeps, publics-of, marked-of, blocks-rule}
 
 -- ---- lists filled with zeros

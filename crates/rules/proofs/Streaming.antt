@@ -7,10 +7,10 @@ use native.Mathlib.Omega.{arith}
 use lib.ListN.{length, getD, drop, length-append, length-drop}
 use lib.Seq.{take-at, drop-at, drop-drop, drop-append-le}
 use Rattle.rules.specs.declared.State.{State}
-use Rattle.rules.specs.Supply.{Draw, Rule}
+use Rattle.rules.specs.Supply.{Rule}
 use Rattle.rules.specs.Hash.{Hash, blockBytes, chainWords, wordsOf, ending, blocks as blocksOf}
 use Rattle.rules.specs.Sha1.{publics}
-use Rattle.rules.specs.Hmac.{Masked, digestPadding, textStep, digestStep, tagOf}
+use Rattle.rules.specs.Hmac.{Masked, digestPadding, tagOf}
 use Rattle.rules.specs.Counts.{startDraws, feedDraws, finishDraws}
 use Rattle.rules.specs.Stream.{inUse, waiting, ReadAlike, state, start, fedFrom, finishedFrom, fullBlocks, feed, finish}
 use Rattle.rules.proofs.Rule.{give, bind, said, counted}

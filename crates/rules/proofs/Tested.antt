@@ -18,7 +18,6 @@ use Rattle.rules.specs.Numbers.{largest, longestKey, longestMessage, bot
 use Rattle.rules.specs.Shares.{refresh, expand, and, add}
 use Rattle.rules.specs.Convert.{toBool, toArith}
 use Rattle.rules.specs.Counts.{refreshDraws, andDraws, addDraws, toBoolDraws, toArithDraws, compressDraws, keyDraws, hmacDraws, sha1}
-use Rattle.rules.specs.Standard.{SHA1}
 use Rattle.rules.specs.Sha1.{compress, used, chainOf}
 use Rattle.rules.specs.Hmac.{splitKey, hmacTag}
 use Rattle.rules.specs.Calls.{oneTests, twoTests, openCall, query, compressCall}

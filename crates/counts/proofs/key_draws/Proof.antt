@@ -6,6 +6,12 @@ use Rattle.counts.proofs.Queries.{key-product, key-sum, short-draws, lo
 use Rattle.counts.proofs.key_draws.Statement.{statement}
 use Rattle.counts.proofs.key_draws.Tie as tie
 
+add-result : tie.Need-add-result
+add-result c =
+    let s = c .before .before in
+    let sum = key-sum (s .args .n) (s .args .key) (s .pre .0) (s .pre .1) _ _ (c .compressions-words .ensures) in
+    record { fits = sum (omega (arith, s .pre .1)) }
+
 pub key-draws-spec : {M : Type 1} → statement M
 key-draws-spec =
     tie.close
@@ -20,5 +26,5 @@ key-draws-spec =
     (λ c. omega (arith, some _ (c .before .pre .0)))
     (λ c. let s = c .before in record { fits = omega (arith, key-product (s .args .n) (s .args .key) (s .pre .0) (s .pre .1)) })
     (λ c κs. search needs)
-    (λ c. record { fits = search key-sum })
+    add-result
     (λ c. search (long-draws, needs)))

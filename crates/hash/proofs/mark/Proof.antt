@@ -1,9 +1,9 @@
 -- the constants that are left, from here on, give what all of them give from the start
 use borrow.Author.Needs.{needs}
 use Prim.Native.Nat.{_-_, _*_, _≤_}
-use mathlib.Core.Path.{_≡_}
+use mathlib.Core.Path.{_≡_, refl}
 use lib.ListN.{length, drop}
-use Rattle.hash.proofs.Publics.{place-in, marking, marking-begins, marking-next, marking-end}
+use Rattle.hash.proofs.Publics.{place-in, marking, marking-next, marking-end}
 use Rattle.hash.proofs.mark.Statement.{statement}
 use Rattle.hash.proofs.mark.Tie as tie
 
@@ -20,10 +20,10 @@ mark-spec =
     (tie.spec
     Inv-loop
     μ-loop
-    (λ c. (search needs, search needs, search marking-begins))
+    (λ c. (search needs, search needs, refl))
     (λ c. search needs)
     (λ c. search needs)
-    (λ c κs. search place-in)
+    (λ c κs. search (place-in, needs))
     (λ c. search needs)
     (λ c. search needs)
     (λ c. (search needs, search needs, search marking-next))
