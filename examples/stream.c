@@ -4,7 +4,9 @@
  *   cc -o stream -I include examples/stream.c target/lib/libflamivorse.a
  *   ./stream examples/box.key examples/trial.log
  *
- * The key is the bytes of its file. The random words come from /dev/urandom, and each is used once.
+ * The key is the bytes of its file, at most 64: a longer one is hashed when it is split, which draws the words of up
+ * to 17 compressions at once, and there is no room for so many here. Its SHA-1 digest may stand for it: the tags are
+ * the same. The random words come from /dev/urandom, and each is used once.
  *
  * Memory, whatever the log's length: 126,080 bytes of data (.bss, as size tells) and 8,264 of stack (painted before a
  * run and looked at after it), beside the code and what the C library takes for its files. Of the data 125,280 bytes
@@ -116,13 +118,15 @@ __attribute__((noinline)) static void finish(const char *name, uint8_t *tag)
     keep(&done.state);
 }
 
-/* Reads a key and splits it. */
+/* Reads a key and splits it. Of one that is too long no part may be taken for the whole. */
 static void split_key(const char *name, uint32_t *shares)
 {
     static uint8_t key[KEY_LIMIT + 1];
     FILE *file = open_file(name);
     size_t size = read_piece(name, file, key, sizeof key);
     fclose(file);
+    if (size > KEY_LIMIT)
+        stop(name, "the key has more than 64 bytes");
     size_t count = fresh_words(name, flamivorse_split_key_words(SHARES, size));
     accepted(name, flamivorse_split_key(SHARES, key, size, shares, KEY_WORDS, words, count).number);
     clear(key, sizeof key);

@@ -3,12 +3,15 @@
  *   cc -o tag -I include examples/tag.c target/lib/libflamivorse.a
  *   ./tag examples/box.key examples/trial.log
  *
- * The key is the bytes of its file. The random words come from /dev/urandom, and each is used once. */
+ * The key is the bytes of its file, at most 1,024. The random words come from /dev/urandom, and each is used once.
+ *
+ * A call needs all its words at once. The key takes 192 bytes of them, or where it has more than 64 bytes and is hashed
+ * up to 4.3 MB; the log takes up to 17 MB, and the key's are given back before. */
 #include <flamivorse.h>
 #include <stdio.h>
 #include <stdlib.h>
 
-enum { SHARES = 4, KEY_WORDS = 16 * SHARES, KEY_LIMIT = 64, LOG_LIMIT = 4096, TAG_BYTES = 20 };
+enum { SHARES = 4, KEY_WORDS = 16 * SHARES, KEY_LIMIT = 1024, LOG_LIMIT = 4096, TAG_BYTES = 20 };
 
 /* Ends the program with a word of why. */
 static void stop(const char *what, const char *why)

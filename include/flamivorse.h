@@ -18,7 +18,7 @@
  *   1  the share count is not 1, 2, 4 or 8
  *   2  an input slice has not exactly the length that the share count asks for
  *   3  an output slice or record has not exactly its length
- *   4  the message is over 4,096 bytes, or the key given for splitting is over 64
+ *   4  the message is over 4,096 bytes, or the key given for splitting is over 1,024
  *   5  fewer words are lent than the call draws
  *   6  the state is finished, its share count is not 1, 2, 4 or 8, or its byte count is over 4,096
  * A refusal reports 0 words drawn and leaves every slice as it came. Where a call takes a state, 1 is never given.
@@ -130,8 +130,15 @@ flamivorse_answer flamivorse_b2a(size_t n, const uint32_t *x, size_t x_len, uint
 
 /* SHA-1 and HMAC-SHA-1 on shares. */
 
-/* Splits a key of at most 64 bytes, padded with zero bytes to 64, into the Boolean shares of 16 big-endian words: shares has 16n words.
- * Draws 16(n-1) words. Refuses with 1, 3, 4, 5. */
+/* Splits a key of at most 1,024 bytes into the Boolean shares of HMAC's key block, 16 big-endian words: shares has 16n
+ * words.
+ * A key of up to 64 bytes is padded with zero bytes to 64 and split word by word. Draws 16(n-1) words.
+ * A longer one is hashed, as HMAC has it (RFC 2104, section 2), and in shares: its bytes, the last word filled with
+ * zero bytes, are split word by word and hashed by SHA-1 under their true length. The five words of the digest, still
+ * in shares, then zero shares, are the key block. Draws (key_len + 3) / 4 * (n-1) words, then those of
+ * (key_len + 8) / 64 + 1 compressions: at four shares a key of 64 bytes draws 48 words, one of 65 bytes 125,331, and
+ * one of 1,024 bytes 1,065,648.
+ * Refuses with 1, 3, 4, 5 (fewer words than the splitting and the compressions draw together). */
 flamivorse_answer flamivorse_split_key(size_t n, const uint8_t *key, size_t key_len, uint32_t *shares, size_t shares_len,
                                        const uint32_t *words, size_t words_len);
 

@@ -15,8 +15,25 @@ use optimised::{Convert, Optimised, Supply};
 use std::hint::black_box;
 use std::time::{Duration, Instant};
 
-const STEPS: [&str; 6] = ["addition", "a2b", "b2a", "compression", "tag", "streamed"];
+const STEPS: [&str; 8] = [
+    "addition",
+    "a2b",
+    "b2a",
+    "compression",
+    "key",
+    "long-key",
+    "tag",
+    "streamed",
+];
 const COUNTS: [usize; 4] = [1, 2, 4, 8];
+
+/// The key that a step splits: a block, or more than a block, which is hashed as well.
+fn key(step: &str) -> &'static [u8] {
+    match step {
+        "key" => &[0x61; 64],
+        _ => &[0x61; 100],
+    }
+}
 
 /// The longest message, which a tag is of unless its length is given.
 const MESSAGE: &[u8] = &[0x61; flamivorse::MESSAGE_LIMIT];
@@ -96,9 +113,21 @@ fn archive<const N: usize>(step: &str, lent: Lent) -> Step {
                 .expect(DONE);
             digest(chain.shares[..5 * N].iter().copied())
         }),
+        "key" | "long-key" => {
+            let key = key(step);
+            Box::new(move || split_key::<N>(key, words))
+        }
         "tag" => Box::new(move || tag::<N>(lent)),
         _ => Box::new(move || streamed::<N>(lent)),
     }
+}
+
+/// The shares of a key by the archive.
+fn split_key<const N: usize>(key: &[u8], words: &[u32]) -> u32 {
+    let mut shares = [[0; N]; 16];
+    let shares = shares.as_flattened_mut();
+    flamivorse::split_key(N, black_box(key), shares, words).expect(DONE);
+    digest(shares.iter().copied())
 }
 
 /// The archive's tag in one call.
@@ -139,6 +168,12 @@ where
             let (chain, block) = (shared(input), shared(black_box(input)));
             digest(optimised::compress::<N>(&chain, &block, &mut supply()).concat())
         }),
+        "key" | "long-key" => {
+            let key = key(step);
+            Box::new(move || {
+                digest(optimised::split_key::<N>(black_box(key), &mut supply()).concat())
+            })
+        }
         _ => Box::new(move || {
             let key = shared::<N, 16>(black_box(input));
             digest(optimised::hmac(&key, lent.message, &mut supply()).map(u32::from))
@@ -153,6 +188,7 @@ fn drawn(step: &str, n: usize, bytes: usize) -> usize {
         "a2b" => flamivorse::a2b_words(n),
         "b2a" => flamivorse::b2a_words(n),
         "compression" => flamivorse::sha1_compress_words(n),
+        "key" | "long-key" => flamivorse::split_key_words(n, key(step).len()),
         _ => flamivorse::hmac_sha1_words(n, bytes),
     };
     drawn.expect("the share count is right").words()
@@ -201,16 +237,21 @@ fn measure<const SIDES: usize>(mut sides: [Step; SIDES]) -> [f64; SIDES] {
     least.map(|time| time.as_secs_f64() * 1e6 / f64::from(repeats))
 }
 
+/// Both sides of a step, which must give the same answer.
+fn compared(step: &str, n: usize, bytes: usize) -> [Step; 2] {
+    let mut sides = sides(step, n, bytes);
+    let [archive, rust] = sides.each_mut().map(|step| step());
+    assert_eq!(archive, rust, "{step} at n = {n}");
+    sides
+}
+
 /// Compares the answers of both sides, times them, and prints the table.
 fn table() {
     println!("| step | shares | archive, µs | optimised Rust, µs | ratio |");
     println!("|---|---|---|---|---|");
     for step in STEPS {
         for n in COUNTS {
-            let mut sides = sides(step, n, MESSAGE.len());
-            let [archive, rust] = sides.each_mut().map(|step| step());
-            assert_eq!(archive, rust, "{step} at n = {n}");
-            let [archive, rust] = measure(sides);
+            let [archive, rust] = measure(compared(step, n, MESSAGE.len()));
             println!(
                 "| {step} | {n} | {archive:.3} | {rust:.3} | {:.2} |",
                 archive / rust
@@ -251,4 +292,18 @@ fn main() -> std::io::Result<()> {
         _ => table(),
     }
     Ok(())
+}
+
+#[cfg(test)]
+mod tests {
+    use super::*;
+
+    #[test]
+    fn both_sides_give_the_same_answers() {
+        for step in STEPS {
+            for n in COUNTS {
+                let _ = compared(step, n, 100);
+            }
+        }
+    }
 }

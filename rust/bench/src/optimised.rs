@@ -171,6 +171,57 @@ pub fn compress<const N: usize>(
     std::array::from_fn(|i| add(&chain[i], &rounds[i], supply))
 }
 
+fn split<const N: usize>(value: u32, supply: &mut Supply) -> Shared<N> {
+    let mut shares = [value; N];
+    shares[..N - 1].copy_from_slice(supply.draw(N - 1));
+    shares[N - 1] = shares.iter().fold(0, |x, share| x ^ share);
+    shares
+}
+
+#[inline(always)]
+fn word(bytes: &[u8], i: usize) -> u32 {
+    u32::from_be_bytes(std::array::from_fn(|byte| bytes[4 * i + byte]))
+}
+
+/// These bytes with their padding, which counts so many bytes before them.
+fn padded(bytes: &[u8], before: usize) -> Vec<u8> {
+    let mut padded = bytes.to_vec();
+    padded.push(0x80);
+    padded.resize((bytes.len() + 8) / 64 * 64 + 56, 0);
+    padded.extend((8 * (before + bytes.len()) as u64).to_be_bytes());
+    padded
+}
+
+/// The key block of a key: its words split; of one over a block their digest.
+pub fn split_key<const N: usize>(key: &[u8], supply: &mut Supply) -> [Shared<N>; 16] {
+    if key.len() > 64 {
+        return long_key(key, supply);
+    }
+    let mut block = [0; 64];
+    block[..key.len()].copy_from_slice(key);
+    std::array::from_fn(|i| split(word(&block, i), supply))
+}
+
+/// All words are split before the first is hashed. Padding goes into their first shares.
+fn long_key<const N: usize>(key: &[u8], supply: &mut Supply) -> [Shared<N>; 16] {
+    let padding = padded(&vec![0; key.len()], 0);
+    let mut filled = key.to_vec();
+    filled.resize(key.len().next_multiple_of(4), 0);
+    let words = (0..filled.len() / 4).map(|i| split(word(&filled, i), supply));
+    let mut words: Vec<Shared<N>> = words.collect();
+    words.resize(padding.len() / 4, [0; N]);
+    for (i, shares) in words.iter_mut().enumerate() {
+        shares[0] ^= word(&padding, i);
+    }
+    let mut chain = START.map(public);
+    for block in words.chunks_exact(16) {
+        chain = compress(&chain, block.try_into().expect("a block"), supply);
+    }
+    let mut block = [[0; N]; 16];
+    block[..5].copy_from_slice(&chain);
+    block
+}
+
 fn keyed<const N: usize>(key: &[Shared<N>; 16], pad: u32, supply: &mut Supply) -> [Shared<N>; 5] {
     compress(
         &START.map(public),
@@ -185,14 +236,13 @@ pub fn hmac<const N: usize>(
     message: &[u8],
     supply: &mut Supply,
 ) -> [u8; 20] {
-    let mut padded = message.to_vec();
-    padded.push(0x80);
-    padded.resize((message.len() + 8) / 64 * 64 + 56, 0);
-    padded.extend((8 * (64 + message.len() as u64)).to_be_bytes());
     let mut inner = keyed(key, 0x36363636, supply);
-    for block in padded.chunks_exact(64) {
-        let word = |i: usize| u32::from_be_bytes(std::array::from_fn(|byte| block[4 * i + byte]));
-        inner = compress(&inner, &std::array::from_fn(|i| public(word(i))), supply);
+    for block in padded(message, 64).chunks_exact(64) {
+        inner = compress(
+            &inner,
+            &std::array::from_fn(|i| public(word(block, i))),
+            supply,
+        );
     }
     let outer = keyed(key, 0x5c5c5c5c, supply);
     let mut digest = [[0; N]; 16];

@@ -7,6 +7,9 @@ use std::ffi::OsString;
 /// The share count where none is asked for.
 const SHARES: usize = 4;
 
+/// The key's length where none is asked for: a block. All keys up to it draw the same.
+const KEY_LENGTH: usize = 64;
+
 pub const HELP: &str = "\
 Tags logs with HMAC-SHA-1 and checks such tags. The key is split into shares
 first, and only the tag is ever put together again.
@@ -14,29 +17,33 @@ first, and only the tag is ever put together again.
 Usage:
   flamivorse tag --key FILE [--shares N] [--words FILE] [LOG...]
   flamivorse check --key FILE [--shares N] [--words FILE] [TAGS...]
-  flamivorse words [--shares N] --length L
+  flamivorse words [--shares N] [--key-length K] --length L
 
 Commands:
   tag     print the tag and the name of each LOG
   check   read lines as tag prints them from each TAGS, and say of each log
           whether its tag is right
   words   print how many random words the tag of a log of L bytes draws, how
-          many splitting the key draws (once a run), and the sum of the two
+          many splitting a key of K bytes draws (once a run), and the sum of
+          the two
 
 With no LOG or TAGS, or where it is -, standard input is read.
 
 Options:
-  --key FILE     the key: the bytes of FILE as they stand, at most 64; a line
-                 end at the end of FILE is part of it
-  --shares N     work with N shares: 1, 2, 4 or 8 (4 unless said otherwise)
-  --words FILE   take the random words from FILE, four bytes a word, the most
-                 significant first, so that a run can be repeated; unless said
-                 otherwise they come from the operating system
-  --length L     the length of the log in bytes
-  -h, --help     print this
-  -V, --version  print the version
+  --key FILE      the key: the bytes of FILE as they stand, at most 1,024; a
+                  line end at the end of FILE is part of it
+  --shares N      work with N shares: 1, 2, 4 or 8 (4 unless said otherwise)
+  --words FILE    take the random words from FILE, four bytes a word, the most
+                  significant first, so that a run can be repeated; unless said
+                  otherwise they come from the operating system
+  --length L      the length of the log in bytes
+  --key-length K  the length of the key in bytes (64 unless said otherwise)
+  -h, --help      print this
+  -V, --version   print the version
 
-A log has at most 4,096 bytes.
+A log has at most 4,096 bytes. Keys of up to 64 bytes all draw the same few
+words; a longer one is hashed in shares, as HMAC has it, and draws many more:
+words --key-length K says how many.
 
 Exit status: 0 if all was done and every tag was right; 1 if a tag was not
 right, or a list had none, whatever else happened; 2 if something could not be
@@ -58,6 +65,7 @@ pub enum Command {
     },
     Words {
         shares: usize,
+        key_length: usize,
         length: usize,
     },
 }
@@ -77,6 +85,7 @@ struct Given {
     shares: Option<usize>,
     words: Option<OsString>,
     length: Option<usize>,
+    key_length: Option<usize>,
     names: Vec<OsString>,
 }
 
@@ -91,6 +100,7 @@ pub fn parse(mut parser: lexopt::Parser) -> Result<Command, Problem> {
             Long("shares") => given.shares = Some(parser.value()?.parse()?),
             Long("words") => given.words = Some(parser.value()?),
             Long("length") => given.length = Some(parser.value()?.parse()?),
+            Long("key-length") => given.key_length = Some(parser.value()?.parse()?),
             Value(verb) if given.verb.is_none() => given.verb = Some(verb),
             Value(name) => given.names.push(name),
             other => return Err(other.unexpected().into()),
@@ -119,8 +129,10 @@ impl Given {
 
     /// The options, and the names, or standard input where none is given.
     fn files(mut self) -> Result<(Options, Vec<OsString>), Problem> {
-        if self.length.is_some() {
-            return Err(Problem::usage("--length is for words alone"));
+        if self.length.is_some() || self.key_length.is_some() {
+            return Err(Problem::usage(
+                "--length and --key-length are for words alone",
+            ));
         }
         if self.names.is_empty() {
             self.names.push("-".into());
@@ -139,11 +151,14 @@ impl Given {
 
     fn words(self) -> Result<Command, Problem> {
         if self.key.is_some() || self.words.is_some() || !self.names.is_empty() {
-            return Err(Problem::usage("words takes --shares and --length alone"));
+            return Err(Problem::usage(
+                "words takes --shares, --key-length and --length alone",
+            ));
         }
         let length = self.length.ok_or(Problem::usage("--length is missing"))?;
         Ok(Command::Words {
             shares: self.shares.unwrap_or(SHARES),
+            key_length: self.key_length.unwrap_or(KEY_LENGTH),
             length,
         })
     }

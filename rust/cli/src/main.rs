@@ -9,7 +9,7 @@ mod problem;
 mod tagger;
 
 use arguments::{Command, Options, HELP};
-use flamivorse::{hmac_sha1_words, split_key_words, Refusal, KEY_LIMIT};
+use flamivorse::{hmac_sha1_words, split_key_words};
 use problem::{complain, Problem};
 use std::ffi::OsString;
 use std::io::{self, Write};
@@ -42,7 +42,11 @@ fn run(command: Command) -> Result<Status, Problem> {
         Command::Version => {
             print(concat!("flamivorse ", env!("CARGO_PKG_VERSION"), "\n").as_bytes())?
         }
-        Command::Words { shares, length } => words(shares, length)?,
+        Command::Words {
+            shares,
+            key_length,
+            length,
+        } => words(shares, key_length, length)?,
         Command::Tag { options, logs } => return tag(&options, &logs),
         Command::Check { options, lists } => return check::check(&options, &lists),
     }
@@ -74,11 +78,13 @@ fn tag(options: &Options, logs: &[OsString]) -> Result<Status, Problem> {
 }
 
 /// Prints how many words a tag draws, how many the splitting of the key draws, and the sum.
-fn words(shares: usize, length: usize) -> Result<(), Problem> {
-    let asked = format!("--shares {shares} --length {length}");
-    let refused = |refusal: Refusal| Problem::refused(&asked, refusal);
-    let tag = hmac_sha1_words(shares, length).map_err(refused)?;
-    let key = split_key_words(shares, KEY_LIMIT).map_err(refused)?;
+fn words(shares: usize, key_length: usize, length: usize) -> Result<(), Problem> {
+    let refused = |option, length: usize| {
+        let asked = format!("--shares {shares} {option} {length}");
+        move |refusal| Problem::refused(asked, refusal)
+    };
+    let tag = hmac_sha1_words(shares, length).map_err(refused("--length", length))?;
+    let key = split_key_words(shares, key_length).map_err(refused("--key-length", key_length))?;
     let total = tag.words() + key.words();
     print(format!("{tag} tag\n{key} key\n{total} total\n").as_bytes())
 }

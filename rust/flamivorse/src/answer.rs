@@ -45,7 +45,7 @@ pub enum Refusal {
     InputLength,
     /// Number 3: an output slice or record has not exactly its length.
     OutputLength,
-    /// Number 4: the message is over 4,096 bytes, or the key given for splitting is over 64.
+    /// Number 4: the message is over 4,096 bytes, or the key given for splitting is over 1,024.
     TooLong,
     /// Number 5: fewer random words are lent than the call draws.
     SupplyShort,
@@ -80,7 +80,7 @@ impl fmt::Display for Refusal {
                 "an input has not exactly the length that the share count asks for"
             }
             Refusal::OutputLength => "an output has not exactly its length",
-            Refusal::TooLong => "the message is over 4,096 bytes, or the key is over 64",
+            Refusal::TooLong => "the message is over 4,096 bytes, or the key is over 1,024",
             Refusal::SupplyShort => "there are fewer random words than the call draws",
             Refusal::StateUnfit => {
                 "the state is finished, or its share count or byte count is not allowed"

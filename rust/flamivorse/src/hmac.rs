@@ -7,7 +7,7 @@ use std::fmt;
 use zeroize::Zeroizing;
 
 /// The longest key that can be split, in bytes.
-pub const KEY_LIMIT: usize = 64;
+pub const KEY_LIMIT: usize = 1024;
 
 /// The longest message that can be tagged, in bytes.
 pub const MESSAGE_LIMIT: usize = 4096;
@@ -21,15 +21,29 @@ const KEY_WORDS: usize = 16;
 /// The largest share count.
 const MOST_SHARES: usize = 8;
 
-/// Splits a key of at most [`KEY_LIMIT`] bytes, padded with zero bytes to 64, into the Boolean
-/// shares of 16 big-endian words.
+/// Splits a key of at most [`KEY_LIMIT`] bytes into the Boolean shares of HMAC's key block, 16
+/// big-endian words.
 ///
 /// `shares` has 16n words. [`Key::split`] does the same and keeps the shares, cleared when dropped.
+///
+/// A key of up to 64 bytes is padded with zero bytes to 64 and split word by word. That draws
+/// 16(n − 1) words.
+///
+/// A longer one is hashed, as HMAC has it (RFC 2104, section 2), and in shares: its bytes, the last
+/// word filled with zero bytes, are split word by word and hashed by SHA-1 under their true length.
+/// The five words of the digest, still in shares, then zero shares, are the key block. That draws
+/// many more words, as [`split_key_words`] tells: at two shares 16 for 64 bytes, but 20,897 for 65,
+/// which are 17 for the splitting and two compressions.
 ///
 /// ```
 /// let mut shares = [0; 16];
 /// flamivorse::split_key(1, b"Jefe", &mut shares, &[])?;
 /// assert_eq!(shares[..2], [0x4a656665, 0]);
+///
+/// // Of a key of 80 bytes, its digest.
+/// flamivorse::split_key(1, &[0xaa; 80], &mut shares, &[])?;
+/// assert_eq!(shares[..2], [0x4ca0ef38, 0xf1794b28]);
+/// assert_eq!(shares[5..], [0; 11]);
 /// # Ok::<(), flamivorse::Refusal>(())
 /// ```
 pub fn split_key(
@@ -113,11 +127,17 @@ queries! {
 
 /// How many words [`split_key`] draws at n shares for a key of `key_len` bytes.
 ///
-/// ```
-/// use flamivorse::{split_key_words, Refusal};
+/// Up to 64 bytes it is 16(n − 1). From 65 bytes on it is ⌈`key_len` / 4⌉(n − 1), and what
+/// ⌊(`key_len` + 8) / 64⌋ + 1 compressions draw besides.
 ///
+/// ```
+/// use flamivorse::{sha1_compress_words, split_key_words, Refusal};
+///
+/// let compression = sha1_compress_words(4)?.words();
 /// assert_eq!(split_key_words(4, 64)?.words(), 48);
-/// assert_eq!(split_key_words(4, 65), Err(Refusal::TooLong));
+/// assert_eq!(split_key_words(4, 65)?.words(), 51 + 2 * compression);
+/// assert_eq!(split_key_words(4, 1024)?.words(), 768 + 17 * compression);
+/// assert_eq!(split_key_words(4, 1025), Err(Refusal::TooLong));
 /// # Ok::<(), Refusal>(())
 /// ```
 pub fn split_key_words(n: usize, key_len: usize) -> Result<Drawn, Refusal> {
@@ -153,7 +173,8 @@ pub struct Key {
 }
 
 impl Key {
-    /// Splits a key of at most [`KEY_LIMIT`] bytes into n shares, as [`split_key`] does.
+    /// Splits a key of at most [`KEY_LIMIT`] bytes into n shares, as [`split_key`] does: one of
+    /// over 64 bytes is hashed, and draws many more words ([`split_key_words`]).
     pub fn split(n: usize, key: &[u8], words: &[u32]) -> Result<Key, Refusal> {
         let length = KEY_WORDS * n.min(MOST_SHARES);
         let mut shares = Zeroizing::new(vec![0; length]);

@@ -399,6 +399,11 @@ pub static CALLS: [Call; 12] = [
     },
 ];
 
+/// The call of this name on n shares.
+pub fn named(name: &str) -> &'static Call {
+    CALLS.iter().find(|call| call.name == name).expect(name)
+}
+
 /// The call of this name on a state in the archive and in `second`.
 macro_rules! on_state {
     ($function:ident(|$a:ident| $argument:expr)) => {

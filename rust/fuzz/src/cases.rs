@@ -6,7 +6,7 @@ use crate::calls::{
 };
 use crate::lent::{Arguments, Lengths, Outline};
 use crate::random::Random;
-use flamivorse::MESSAGE_LIMIT;
+use flamivorse::{KEY_LIMIT, MESSAGE_LIMIT};
 
 /// Every so manieth case is of a message in pieces. The number decides, and nothing drawn, so that
 /// all other cases are what they would be without these.
@@ -90,7 +90,7 @@ fn asked_length(random: &mut Random, length: impl Fn(&mut Random) -> usize) -> u
 fn made(random: &mut Random) -> Case {
     let call = pick(random);
     let fitting = fitting(call, random);
-    let right = call.lengths(fitting, bytes(call, random));
+    let right = call.lengths(fitting, quick_bytes(call, random));
     let lengths = lengths(right, random);
     let mut arguments = Arguments::random(count(fitting, random), lengths, random);
     if random.below(4) == 0 {
@@ -221,6 +221,17 @@ fn count(fitting: usize, random: &mut Random) -> usize {
     }
 }
 
+/// How many bytes a call is given. Of the keys that are hashed, which is slow, most are put back.
+fn quick_bytes(call: &Call, random: &mut Random) -> usize {
+    loop {
+        let bytes = bytes(call, random);
+        let hashed = call.limit == Some(KEY_LIMIT) && (65..=KEY_LIMIT).contains(&bytes);
+        if !hashed || random.below(32) == 0 {
+            return bytes;
+        }
+    }
+}
+
 /// How many bytes there are: mostly few, else up to the limit, around it, or over it.
 fn bytes(call: &Call, random: &mut Random) -> usize {
     let Some(limit) = call.limit else {
@@ -230,6 +241,7 @@ fn bytes(call: &Call, random: &mut Random) -> usize {
         0 => limit + 1 + random.below(limit),
         1 => limit + random.below(2),
         2 => random.below(limit + 1),
+        _ if limit == KEY_LIMIT => random.key_length(),
         _ => random.below(limit.min(200) + 1),
     }
 }

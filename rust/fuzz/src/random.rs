@@ -1,5 +1,7 @@
 //! Seeded random values (SplitMix64): the same on every machine and in every run.
 
+use flamivorse::KEY_LIMIT;
+
 /// Words at the edges of the range.
 pub const EDGES: [u32; 5] = [0, 1, 0x7fff_ffff, 0x8000_0000, 0xffff_ffff];
 
@@ -31,6 +33,16 @@ impl Random {
     /// A number below the limit.
     pub fn below(&mut self, limit: usize) -> usize {
         self.word() as usize % limit
+    }
+
+    /// How long a key is: mostly at most a block. One in four is longer, and hashed; most of these
+    /// are not much longer, since each block more draws the words of another compression.
+    pub fn key_length(&mut self) -> usize {
+        match self.below(32) {
+            0 => self.below(KEY_LIMIT + 1),
+            1..=7 => 65 + self.below(136),
+            _ => self.below(65),
+        }
     }
 
     pub fn words(&mut self, count: usize) -> Vec<u32> {

@@ -81,9 +81,11 @@ impl Found {
     }
 }
 
-/// The seeds of the words that a chain, a block or key, an outer chain and a supply have.
+/// The seeds of the words that a chain, a block or key in shares, a plain key, an outer chain and a
+/// supply have.
 const CHAIN: u32 = 1;
 const BLOCK: u32 = 1000;
+const KEY: u32 = 1500;
 const OUTER: u32 = 2000;
 const SUPPLY: u32 = 3000;
 
@@ -149,6 +151,76 @@ fn no_shares_are_found_after_a_safe_call() {
         assert_eq!(call.found.count(&call.block), 0);
         assert_eq!(call.found.count(&fresh(5 * n, CHAIN)), 0);
         assert_eq!(call.found.count(&call.chain.shares[..5 * n]), 0);
+    }
+}
+
+/// The words of the longest key, before it is split.
+fn plain_key() -> Vec<u32> {
+    fresh(crate::KEY_LIMIT / 4, KEY)
+}
+
+/// The longest key, which is hashed when it is split, its shares, and what is found after that.
+struct Splitting {
+    key: Vec<u8>,
+    shares: Vec<u32>,
+    words: Vec<u32>,
+    found: Found,
+}
+
+impl Splitting {
+    fn new(n: usize) -> Splitting {
+        let words = crate::split_key_words(n, crate::KEY_LIMIT).expect("a right count");
+        let key = plain_key().into_iter().flat_map(u32::to_be_bytes);
+        Splitting {
+            key: key.collect(),
+            shares: vec![0; 16 * n],
+            words: fresh(words.words(), SUPPLY),
+            found: Found::nothing(),
+        }
+    }
+
+    /// How many are found of the last shares of the key's words, and of the shares of its digest.
+    fn count(&self) -> [usize; 2] {
+        let n = self.shares.len() / 16;
+        let drawn = |place: usize| &self.words[place * (n - 1)..][..n - 1];
+        let last = |(place, word)| drawn(place).iter().fold(word, |last, word| last ^ word);
+        let lasts: Vec<u32> = (0..).zip(plain_key()).map(last).collect();
+        [&lasts, &self.shares[..5 * n]].map(|words| self.found.count(words))
+    }
+}
+
+#[test]
+fn shares_are_found_after_the_archive_has_split_a_long_key() {
+    for n in [1, 2, 4, 8] {
+        let mut call = Splitting::new(n);
+        let (key, shares, words) = (&call.key, &mut call.shares, &call.words);
+        // SAFETY: all are slices of Rust's, and none overlaps another.
+        let answer = unsafe {
+            flamivorse_split_key(
+                n,
+                key.as_ptr(),
+                key.len(),
+                shares.as_mut_ptr(),
+                shares.len(),
+                words.as_ptr(),
+                words.len(),
+            )
+        };
+        call.found.look();
+        assert_eq!(answer.number, 0);
+        assert!(call.count().into_iter().all(|found| found > 0));
+    }
+}
+
+#[test]
+fn no_shares_are_found_after_a_long_key_is_split() {
+    for n in [1, 2, 4, 8] {
+        let mut call = Splitting::new(n);
+        let done = crate::split_key(n, &call.key, &mut call.shares, &call.words);
+        call.found.look();
+        assert!(done.is_ok());
+        assert_eq!(call.count(), [0, 0]);
+        assert_eq!(call.found.count(&plain_key()), 0);
     }
 }
 

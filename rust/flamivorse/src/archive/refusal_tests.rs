@@ -75,9 +75,11 @@ fn on_keys_and_messages() {
     let (none, key, bytes): (&[u32], &[u32], &[u8]) = (&[], &many()[..32], &[0; 4097]);
     for (n, places, length, number) in [
         (3, 32, 64, 1),
-        (2, 31, 65, 3),
-        (2, 32, 65, 4),
+        (2, 31, 1025, 3),
+        (2, 32, 1025, 4),
         (2, 32, 64, 5),
+        (2, 32, 65, 5),
+        (2, 32, 1024, 5),
     ] {
         let (key, shares) = (&bytes[..length], &mut many()[..places]);
         refused(
@@ -223,9 +225,9 @@ fn queries() {
         refused(query!(flamivorse_a2b_words(n)), 1);
         refused(query!(flamivorse_b2a_words(n)), 1);
         refused(query!(flamivorse_sha1_compress_words(n)), 1);
-        refused(query!(flamivorse_split_key_words(n, 65)), 1);
+        refused(query!(flamivorse_split_key_words(n, 1025)), 1);
         refused(query!(flamivorse_hmac_sha1_words(n, 4097)), 1);
     }
-    refused(query!(flamivorse_split_key_words(8, 65)), 4);
+    refused(query!(flamivorse_split_key_words(8, 1025)), 4);
     refused(query!(flamivorse_hmac_sha1_words(8, 4097)), 4);
 }

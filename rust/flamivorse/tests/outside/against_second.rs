@@ -2,6 +2,7 @@
 //! counts, and every slice that was lent.
 
 use crate::report;
+use flamivorse::KEY_LIMIT;
 use fuzz::calls::{refused, Call, Target, CALLS, COUNTS, WRONG_COUNTS};
 use fuzz::lent::Arguments;
 use fuzz::random::Random;
@@ -15,10 +16,13 @@ fn repeats(call: &Call) -> [usize; 4] {
     }
 }
 
-/// A length that the call takes: mostly short, now and then any, the limit among them.
+/// A length that the call takes: mostly short, now and then any, the limit among them. One key in
+/// eight is hashed, which is slow.
 fn length(call: &Call, random: &mut Random) -> usize {
     match call.limit {
         None => 0,
+        Some(KEY_LIMIT) if random.below(2) == 0 => random.below(65),
+        Some(KEY_LIMIT) => random.key_length(),
         Some(limit) if random.below(12) == 0 => random.below(limit + 1),
         Some(limit) => random.below(limit.min(200) + 1),
     }
@@ -26,7 +30,7 @@ fn length(call: &Call, random: &mut Random) -> usize {
 
 /// One random case: with exactly the words that the query tells, with more, with others after those
 /// drawn, and with one word less. Gives how many cases that were.
-fn compare_supplies(call: &Call, exact: Arguments, random: &mut Random) -> usize {
+pub fn compare_supplies(call: &Call, exact: Arguments, random: &mut Random) -> usize {
     let (outcome, after) = call.compare(Target::Rust, &exact);
     assert_eq!(outcome.number, 0, "{}", call.name);
     if call.query.is_none() {

@@ -1,11 +1,12 @@
 //! The archive from outside: every call through this crate, against `second` (an independent
-//! program written from the rules alone), against RustCrypto's HMAC, and against the limits of the
-//! rules.
+//! program written from the rules alone), against RustCrypto's HMAC and SHA-1, and against the
+//! limits of the rules.
 //!
 //! All random values are seeded, so that every run has the same cases. Each test prints how many it
 //! ran, as `cases: N, what`.
 
 mod against_second;
+mod keys;
 mod reference;
 mod refusals;
 mod streams;

@@ -3,6 +3,7 @@
 //! slice and its guards as they came.
 
 use crate::report;
+use flamivorse::KEY_LIMIT;
 use fuzz::calls::{refused, Call, Target, CALLS, COUNTS, WRONG_COUNTS};
 use fuzz::lent::Arguments;
 use fuzz::random::Random;
@@ -109,15 +110,25 @@ fn compare_all(call: &Call, arguments: &Arguments, faults: &[Fault]) -> usize {
     cases
 }
 
+/// How many bytes a call is given: of a key few, which are padded, and more, which are hashed.
+fn byte_counts(call: &Call) -> &'static [usize] {
+    match call.limit {
+        None => &[0],
+        Some(KEY_LIMIT) => &[20, 100],
+        Some(_) => &[20],
+    }
+}
+
 #[test]
 fn every_fault_and_every_two_faults() {
     for (seed, call) in CALLS.iter().enumerate() {
         let mut random = Random::new(200 + seed as u64);
         let mut cases = 0;
         for n in COUNTS {
-            let lengths = call.lengths(n, call.limit.map_or(0, |_| 20));
-            let arguments = Arguments::random(n, lengths, &mut random);
-            cases += compare_all(call, &arguments, &faults(call, n, &arguments));
+            for &bytes in byte_counts(call) {
+                let arguments = Arguments::random(n, call.lengths(n, bytes), &mut random);
+                cases += compare_all(call, &arguments, &faults(call, n, &arguments));
+            }
         }
         report(cases, &format!("{} with one fault or two", call.name));
     }

@@ -6,7 +6,7 @@ use crate::report;
 use crate::tags::{outside_tag, rfc2202, tag};
 use flamivorse::{
     hmac_sha1_feed, hmac_sha1_finish, hmac_sha1_words, sha1_compress_words, split_key_words, Drawn,
-    Failure, Key, Refusal, Source, State, Stream, Supply, KEY_LIMIT, MESSAGE_LIMIT, TAG_BYTES,
+    Failure, Key, Refusal, Source, State, Stream, Supply, MESSAGE_LIMIT, TAG_BYTES,
 };
 use fuzz::calls::COUNTS;
 use fuzz::random::Random;
@@ -86,14 +86,15 @@ fn in_pieces(key: &Key, message: &[u8], lengths: &[usize]) -> ([u8; TAG_BYTES], 
 }
 
 /// Compares every one of these cuts with the others, with the one-call form and with RustCrypto.
-fn compare(n: usize, key: &[u8], message: &[u8], cuts: &[Vec<usize>]) -> usize {
-    let whole = in_pieces(&split(n, key), message, &[message.len()]);
+pub fn compare(n: usize, key: &[u8], message: &[u8], cuts: &[Vec<usize>]) -> usize {
+    let split = split(n, key);
+    let whole = in_pieces(&split, message, &[message.len()]);
     assert_eq!(whole.0, outside_tag(key, message));
     assert_eq!(tag(n, key, message, &mut Random::new(502)), Ok(whole.0));
     let count = hmac_sha1_words(n, message.len()).map(Drawn::words);
     assert_eq!(count, Ok(whole.2));
     for lengths in cuts {
-        let again = in_pieces(&split(n, key), message, lengths);
+        let again = in_pieces(&split, message, lengths);
         assert!(again == whole, "{lengths:?} at n = {n}");
     }
     1 + cuts.len()
@@ -146,7 +147,7 @@ fn cuts_of_random_messages() {
             .chain(any)
             .collect();
         for length in lengths {
-            let key_length = random.below(KEY_LIMIT + 1);
+            let key_length = random.key_length();
             let (key, message) = (random.bytes(key_length), random.bytes(length));
             let mut cuts: Vec<_> = [1, 63, 64, 65]
                 .map(|piece| equal_pieces(length, piece))

@@ -31,12 +31,12 @@ pub fn tag(
 
 /// Compares one tag of a random key and message.
 fn compare(n: usize, length: usize, random: &mut Random) {
-    let key_length = random.below(KEY_LIMIT + 1);
+    let key_length = random.key_length();
     let (key, message) = (random.bytes(key_length), random.bytes(length));
     assert_eq!(
         tag(n, &key, &message, random),
         Ok(outside_tag(&key, &message)),
-        "{length} bytes at n = {n}"
+        "{length} bytes under a key of {key_length} at n = {n}"
     );
 }
 
@@ -65,8 +65,8 @@ fn against_rustcrypto() {
     report(cases, "tags against RustCrypto");
 }
 
-/// The SHA-1 cases of RFC 2202 that the key limit allows: key, message, tag.
-pub fn rfc2202() -> [(Vec<u8>, Vec<u8>, &'static str); 5] {
+/// The SHA-1 cases of RFC 2202: key, message, tag. The keys of the last two are hashed.
+pub fn rfc2202() -> [(Vec<u8>, Vec<u8>, &'static str); 7] {
     [
         (
             vec![0x0b; 20],
@@ -92,6 +92,16 @@ pub fn rfc2202() -> [(Vec<u8>, Vec<u8>, &'static str); 5] {
             vec![0x0c; 20],
             b"Test With Truncation".to_vec(),
             "4c1a03424b55e07fe7f27be1d58bb9324a9a5a04",
+        ),
+        (
+            vec![0xaa; 80],
+            b"Test Using Larger Than Block-Size Key - Hash Key First".to_vec(),
+            "aa4ae5e15272d00e95705637ce8a3b55ed402112",
+        ),
+        (
+            vec![0xaa; 80],
+            b"Test Using Larger Than Block-Size Key and Larger Than One Block-Size Data".to_vec(),
+            "e8e99d0f45237d786d6bbaa7965c7808bbff1a91",
         ),
     ]
 }
@@ -127,11 +137,12 @@ fn limits() {
             Err(Refusal::TooLong)
         );
         assert_eq!(hmac_sha1_words(n, MESSAGE_LIMIT + 1), Err(Refusal::TooLong));
-        assert!(Key::split(n, &[0; KEY_LIMIT], &words[..16 * (n - 1)]).is_ok());
+        assert!(Key::split(n, &[0; KEY_LIMIT], &words).is_ok());
         assert_eq!(
             Key::split(n, &[0; KEY_LIMIT + 1], &words).err(),
             Some(Refusal::TooLong)
         );
+        assert_eq!(split_key_words(n, KEY_LIMIT + 1), Err(Refusal::TooLong));
     }
     let mut x = [0; 2];
     let words = random.words(34);
@@ -148,5 +159,5 @@ fn limits() {
         assert_eq!(a2b(n, &[], &mut [], &[]), Err(Refusal::ShareCount));
         assert_eq!(Key::split(n, b"key", &[]).err(), Some(Refusal::ShareCount));
     }
-    report(4 * 5 + 7, "limits");
+    report(4 * 6 + 7, "limits");
 }

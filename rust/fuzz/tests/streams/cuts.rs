@@ -2,8 +2,8 @@
 //! one-call form and of RustCrypto.
 
 use crate::{report, FEED, FINISH, START, TARGETS};
-use flamivorse::{KEY_LIMIT, MESSAGE_LIMIT};
-use fuzz::calls::{Call, Target, CALLS, COUNTS};
+use flamivorse::MESSAGE_LIMIT;
+use fuzz::calls::{named, Call, Target, COUNTS};
 use fuzz::lent::{Arguments, Lengths};
 use fuzz::random::Random;
 use hmac::{Hmac, Mac};
@@ -16,11 +16,6 @@ fn outside_tag(key: &[u8], message: &[u8]) -> Vec<u8> {
     let mut hmac = Hmac::<Sha1>::new_from_slice(key).expect("HMAC takes any key");
     hmac.update(message);
     hmac.finalize().into_bytes().to_vec()
-}
-
-/// The call of this name on n shares.
-fn named(name: &str) -> &'static Call {
-    CALLS.iter().find(|call| call.name == name).expect(name)
 }
 
 /// A message on its way: all that its calls are lent, the state among it, and the words to come.
@@ -120,8 +115,8 @@ fn bytes_of(digits: &str) -> Vec<u8> {
     pairs.map(byte).collect()
 }
 
-/// The cases of RFC 2202 that the key limit allows: key, message, tag.
-fn rfc2202() -> [[Vec<u8>; 3]; 5] {
+/// The cases of RFC 2202: key, message, tag.
+fn rfc2202() -> [[Vec<u8>; 3]; 7] {
     let lines = RFC_2202.lines().filter(|line| !line.starts_with('#'));
     let lines = lines.filter(|line| !line.is_empty());
     let fields = |line: &str| {
@@ -129,25 +124,13 @@ fn rfc2202() -> [[Vec<u8>; 3]; 5] {
         fields.try_into().expect("three fields after the number")
     };
     let cases: Vec<_> = lines.map(fields).collect();
-    cases.try_into().expect("five cases")
+    cases.try_into().expect("seven cases")
 }
 
 /// Every cut in two, empty pieces among them, and single bytes.
 fn every_cut(length: usize) -> Vec<Vec<usize>> {
     let in_two = (0..=length).map(|first| vec![first, length - first]);
     in_two.chain([vec![1; length]]).collect()
-}
-
-#[test]
-fn every_cut_of_rfc_2202() {
-    let mut cases = 0;
-    for [key, message, tag] in rfc2202() {
-        assert_eq!(outside_tag(&key, &message), tag);
-        for n in COUNTS {
-            cases += compare_cuts(n, &key, &message, &every_cut(message.len()));
-        }
-    }
-    report(cases, "cuts of RFC 2202 by Rust and C, against second");
 }
 
 /// Pieces of lengths that are drawn one by one, from what is left.
@@ -171,6 +154,24 @@ fn some_cuts(length: usize, random: &mut Random) -> [Vec<usize>; 4] {
     [vec![1; length], around, any, vec![length]]
 }
 
+/// Every cut; some where the key is hashed, since the calls of a message know nothing of that.
+#[test]
+fn cuts_of_rfc_2202() {
+    let mut random = Random::new(604);
+    let mut cases = 0;
+    for [key, message, tag] in rfc2202() {
+        assert_eq!(outside_tag(&key, &message), tag);
+        let cuts = match key.len() {
+            0..=64 => every_cut(message.len()),
+            _ => some_cuts(message.len(), &mut random).into(),
+        };
+        for n in COUNTS {
+            cases += compare_cuts(n, &key, &message, &cuts);
+        }
+    }
+    report(cases, "cuts of RFC 2202 by Rust and C, against second");
+}
+
 /// At each share count lengths around the ends of blocks and of their padding, then any, and the
 /// longest; of these fewer, and fewer cuts, the more words they draw.
 #[test]
@@ -182,7 +183,7 @@ fn cuts_of_random_messages() {
         let any = (0..any).map(|_| (random.below(MESSAGE_LIMIT), most));
         let any: Vec<_> = any.chain([(MESSAGE_LIMIT, most)]).collect();
         for (length, cuts) in edges.into_iter().chain(any) {
-            let key = random.below(KEY_LIMIT + 1);
+            let key = random.key_length();
             let (key, message) = (random.bytes(key), random.bytes(length));
             let lengths = some_cuts(length, &mut random);
             cases += compare_cuts(n, &key, &message, &lengths[..cuts]);
