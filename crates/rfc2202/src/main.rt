@@ -10,7 +10,7 @@ use rules::LONGEST_MESSAGE;
 use rules::TAG_BYTES;
 
 // The longest line that is read as a case, in bytes.
-const LONGEST_LINE: usize = 9000;
+const LONGEST_LINE: usize = 11000;
 
 // How many cases there are, and how many of them are right.
 struct Tally {
@@ -69,7 +69,7 @@ fn read_data(line: u64, text: &[u8], key: &[u8]) -> bool {
 // Reads a line's number and key, and then the rest; whether it is a case whose tag is its digest.
 fn read_case(line: u64, text: &[u8]) -> bool {
     if LONGEST_LINE < text.len() {
-        return lines::complain(line, b"longer than 9000 bytes");
+        return lines::complain(line, b"longer than 11000 bytes");
     }
     if !lines::is_number(lines::field(text, 0)) {
         return lines::complain(line, b"the first field is not the number of a case");
