@@ -98,7 +98,8 @@ def operations(n):
 
 
 def splittings(n):
-    """These get the secret in the clear. Their registers hold it until it is split; what they store may not depend on it, nor the path."""
+    """These get the secret in the clear. Registers hold it until it is split; what is stored may not depend on it, nor the
+    path."""
     value, key = Share(Secret("value", 1), 0), Shares(Secret("key", 1, words=64, width=8))
     return [
         call("split_key", n, (key, Room(16 * n), FreshWords(16 * (n - 1))), splits=key, leaves=True),

@@ -6,7 +6,7 @@ from inputs import Call, FreshWord, FreshWords, Room, Secret, Share, Shares
 
 X, Y, SUM, CLEAR = Secret("x", 2), Secret("y", 2), Secret("x", 2, by_sum=True), Secret("x", 1)
 SHARES_OF_X, SHARES_OF_Y = (Share(X, 0), Share(X, 1)), (Share(Y, 0), Share(Y, 1))
-IN_MEMORY = Shares(CLEAR)
+BARE, IN_MEMORY = Share(CLEAR, 0), Shares(CLEAR)
 SPLITTING = (IN_MEMORY, Room(2), FreshWords(1))
 MASKED_AND = (Shares(X), Shares(Y), FreshWords(1), Room(2))
 
@@ -23,7 +23,7 @@ HAND_WRITTEN = [
     Call("control: a bit of the secret in one run of 16", "bias", (*SHARES_OF_X, FreshWords(4)), leaks=True),
     Call("control: a branch by the secret", "branch", SHARES_OF_X, leaks=True),
     Call("control: an address by a share", "lookup", (*SHARES_OF_X, Room(16)), leaks=True),
-    Call("control: a share that is the value itself", "split_bare", (Share(CLEAR, 0), Room(2), FreshWords(1)), splits=Share(CLEAR, 0), leaks=True),
+    Call("control: a share that is the value itself", "split_bare", (BARE, Room(2), FreshWords(1)), splits=BARE, leaks=True),
     Call("control: a value split where a register holds it", "split_safe", SPLITTING, splits=IN_MEMORY),
     Call("control: a value that waits on the stack", "split_waiting", SPLITTING, splits=IN_MEMORY, leaks=True),
     Call("control: a value opened after its splitting", "split_opened", SPLITTING, splits=IN_MEMORY, leaks=True),

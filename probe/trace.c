@@ -31,7 +31,8 @@ static uint64_t copy_from, copy_to;          // where the archive's own copy sta
 
 // A call that splits a secret: where that stands in the clear, and the words that it is split with.
 static uint64_t clear_from, clear_to, supply_from, supply_to;
-static uint64_t furthest, split_end;         // the furthest of those words read so far; the step with which the splitting is over, 0: not yet
+static uint64_t furthest;                    // the furthest of those words that was read so far
+static uint64_t split_end;                   // the step with which the splitting is over; 0: not yet
 
 static uint32_t *path;
 static uint8_t *kept;
@@ -158,7 +159,8 @@ static void settle(void) {
         find_missed(instruction);
 }
 
-// On the first run: the splitting is over where, the secret read for the last time, a word that was drawn is read again.
+// On the first run: the splitting is over where, the secret read for the last time, a word that was drawn is read
+// again.
 static void follow_splitting(uint64_t address) {
     const Instruction *instruction = instruction_at(address);
     uint64_t from = instruction->touches && !instruction->stores ? address_of(instruction) : 0;

@@ -34,7 +34,8 @@ use Rattle.rules.specs.Outcome.{Allowed, Fit, Whole, None, Asks, Done, Given, S
 use Rattle.rules.proofs.Outcomes.{untested, says-eq, says-le, says-two, exactly, follows, makes, makes-as}
 use Rattle.rules.proofs.Outcomes.{only, done-only, open-settles, record-settles, record-independent}
 use Rattle.rules.proofs.AtCalls.{some, add-count, expand-law, and-law, add-law, toBool-law, toArith-law, toArith-sums}
-use Rattle.rules.proofs.AtCalls.{there-back, back-there, short-count, long-count, splitKey-law, split-opens, hmacTag-law, tags, xor-off}
+use Rattle.rules.proofs.AtCalls.{there-back, back-there, short-count, long-count, splitKey-law, split-opens}
+use Rattle.rules.proofs.AtCalls.{hmacTag-law, tags, xor-off}
 use Rattle.rules.proofs.AtCalls.{compress-outcome, compress-drawn, compress-past, compress-opens-to}
 use Rattle.rules.proofs.AtStreams.{start-outcome, start-count, start-past, feed-outcome, feed-count, feed-past}
 use Rattle.rules.proofs.AtStreams.{finish-outcome, finish-count, finish-past, sha1-cuts, sha1-words, streamed-tag}
@@ -92,7 +93,8 @@ pub record CallsFollow (n : ℕ) : Type 0 where
       → Follows n (length x ≡ n) n None (2 * (n - 1) + W n + 16 * (n * (n - 1)))
       (toArith 32 (add 32) refresh x) (b2aCall 32 n x)
   pub split-key-follows : (key : List ℕ)
-      → Follows n None (16 * n) (length key ≤ 1024) (D n (length key)) (splitKey (sha1 32) n key) (splitKeyCall 32 n key)
+      → Follows n None (16 * n) (length key ≤ 1024) (D n (length key))
+      (splitKey (sha1 32) n key) (splitKeyCall 32 n key)
   pub hmac-follows : (key text : List ℕ)
       → Follows n (length key ≡ 16 * n) 20 (length text ≤ 4096) (((length text + 8) / 64 + 4) * (5220 * (n * (n - 1))))
       (hmacTag (sha1 32) n key text) (hmacCall 32 n key text)

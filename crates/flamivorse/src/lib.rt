@@ -229,7 +229,8 @@ pub extern "C" fn flamivorse_split_key(
     shares: &mut [u32],
     words: &[u32],
 ) -> Answer
-    ensures { λ r. ⌜ splitKeyCall 32 n (now (key .entry)) (now (shares .entry)) (now (words .entry)) ≡ (r, now (shares .exit)) ⌝ }
+    ensures { λ r. ⌜ splitKeyCall 32 n (now (key .entry)) (now (shares .entry)) (now (words .entry))
+        ≡ (r, now (shares .exit)) ⌝ }
 {
     let need = key_words(n, key.len()).drawn;
     let number = key_splitting(n, shares.len(), key.len(), need, words.len());

@@ -23,7 +23,8 @@ module _ (n : ℕ) (ws W : List ℕ) (count : ℕ) (e : Run) where
       let after : j * (16 * n) + 16 * n ≡ (j + 1) * (16 * n) = omega (arith, add-mul j 1 (16 * n)) in
       let left = drop (16 * n) (drop (j * (16 * n)) W) in
       let rest : left ≡ drop ((j + 1) * (16 * n)) W = drop-drop (16 * n) (j * (16 * n)) W ∙ ap (λ t. drop t W) after in
-      rw (← rest) (sym (ap (λ (r : Run). blocks hash n (count - (j + 1)) left (r .0) ws (r .1)) (rw made at f)) ∙ (rw m at inv))
+      rw (← rest)
+      (sym (ap (λ (r : Run). blocks hash n (count - (j + 1)) left (r .0) ws (r .1)) (rw made at f)) ∙ (rw m at inv))
 
   pub blocks-begin : (m p : ℕ) (g : List ℕ) → count ≡ m → Left n ws W count 0 g p ≡ blocks hash n m W g ws p
   blocks-begin m p g f = rw (f, sub-zero m, zero-mul (16 * n))

@@ -1,4 +1,5 @@
--- Constants XORed into share 1, as the code's loop marks them; public words in shares; the chain that a hash starts from.
+-- Constants XORed into share 1, as the code's loop marks them; public words in shares; the chain that a hash starts
+-- from.
 use Prim.Native.Nat.{ℕ, zero, suc, _+_, _-_, _*_, _≤_, _<_}
 use mathlib.Core.Path.{_≡_, refl, sym, ap, ap₂, _∙_}
 use mathlib.Core.List.{List, [], _∷_, _++_}
@@ -6,7 +7,8 @@ use native.Mathlib.Omega.{arith}
 use native.Mathlib.Nat.{mul-le-mul-left, mul-le-mul-right, suc-add, suc-mul, zero-add, zero-mul}
 use native.Mathlib.Numerals.{add-one}
 use lib.Bits.{bitXor}
-use lib.ListN.{length, getD, set, take, drop, replicate, length-append, length-drop, length-set, length-replicate, take-append-drop}
+use lib.ListN.{length, getD, set, take, drop, replicate, length-append, length-drop, length-set, length-replicate}
+use lib.ListN.{take-append-drop}
 use lib.ListN.{drop-of-length-le, List·getD-append}
 use lib.Seq.{drop-cons, take-at, length-take-le, take-append-add, drop-append-add, take-nil, drop-nil, getD-append-add}
 use lib.Seq.{set-append-left}
@@ -42,7 +44,8 @@ marking n [] i z = z
 marking n (v ∷ vs) i z = marking n vs (suc i) (set z (i * n) (bitXor (getD z (i * n) 0) v))
 
 pub marking-next : (n : ℕ) (vs z : List ℕ) (w v : ℕ) (y e : List ℕ) → w < length vs → v ≡ getD vs w 0
-    → y ≡ set z (w * n) (bitXor (getD z (w * n) 0) v) → marking n (drop w vs) w z ≡ e → marking n (drop (w + 1) vs) (w + 1) y ≡ e
+    → y ≡ set z (w * n) (bitXor (getD z (w * n) 0) v) → marking n (drop w vs) w z ≡ e
+    → marking n (drop (w + 1) vs) (w + 1) y ≡ e
 unfolding marking
 marking-next n vs z w v y e h f g p = rw (g, f, add-one w) (rw (drop-cons vs w 0 h) at p)
 
@@ -52,7 +55,8 @@ module _ (n : ℕ) (some : 0 < n) where
   unfolding public
   length-public v = omega (arith, length-replicate {A = ℕ} (n - 1) 0)
 
-  marking-later : (vs : List ℕ) (i : ℕ) (x s : List ℕ) → length x ≡ n → marking n vs (suc i) (x ++ s) ≡ x ++ marking n vs i s
+  marking-later : (vs : List ℕ) (i : ℕ) (x s : List ℕ) → length x ≡ n
+      → marking n vs (suc i) (x ++ s) ≡ x ++ marking n vs i s
   unfolding marking
   marking-later [] i x s h = refl
   marking-later (v ∷ vs) i x s h =
@@ -94,7 +98,8 @@ module _ (n : ℕ) (some : 0 < n) where
   marking-end vs z e w h l p = rw (drop-of-length-le vs h) at p ∙ marking-is vs e l
 
   -- into zeros
-  pub published : (vs z y : List ℕ) (l : ℕ) → l ≡ length vs * n → z ≡ replicate l 0 → y ≡ marked n vs z → y ≡ publics n vs
+  pub published : (vs z y : List ℕ) (l : ℕ) → l ≡ length vs * n → z ≡ replicate l 0 → y ≡ marked n vs z
+      → y ≡ publics n vs
   unfolding marked
   published vs z y l e f g = g ∙ rw (f, e) (each-zeros (publics n vs) (length vs * n) (length-publics n vs some) .1)
 

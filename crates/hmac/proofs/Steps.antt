@@ -22,7 +22,8 @@ use Rattle.sha1.proofs.Parts.{used-lent}
 use Rattle.hmac.specs.Halves.{innerHash, outerHash}
 
 -- ---- a constant in share 1 of each word of a copy
-pub key-block-made : (n c : ℕ) (key z y : List ℕ) → z ≡ key → y ≡ marked n (replicate 16 c) z → y ≡ marked n (replicate 16 c) key
+pub key-block-made : (n c : ℕ) (key z y : List ℕ) → z ≡ key → y ≡ marked n (replicate 16 c) z
+    → y ≡ marked n (replicate 16 c) key
 key-block-made n c key z y e f = rw (← e) f
 
 pub public-made : (n : ℕ) (values v z : List ℕ) → v ≡ values → z ≡ publics n v → z ≡ publics n values
@@ -30,8 +31,10 @@ public-made n values v z e f = rw (← e) f
 
 -- ---- one compression, of a block that was made so
 module _ (n : ℕ) (ws : List ℕ) (at : ℕ) where
-  pub key-made : (c : ℕ) (key : List ℕ) {s b : List ℕ} {o : Run} → 0 < n → s ≡ chainOf n (publics n H0) → b ≡ marked n (replicate 16 c) key
-      → hash .compress n (used n s) b ws at ≡ o → hash .compress n (publics n H0) (marked n (replicate 16 c) key) ws at ≡ o
+  pub key-made : (c : ℕ) (key : List ℕ) {s b : List ℕ} {o : Run} → 0 < n → s ≡ chainOf n (publics n H0)
+      → b ≡ marked n (replicate 16 c) key
+      → hash .compress n (used n s) b ws at ≡ o
+      → hash .compress n (publics n H0) (marked n (replicate 16 c) key) ws at ≡ o
   key-made c key h e f g = rw (← f, ← start-used n h, ← e) g
 
   pub digest-step-made : (h inner x : List ℕ) {b : List ℕ} {o : Run} → b ≡ take (5 * n - 0) inner ++ x

@@ -49,7 +49,8 @@ pub fn key_step(
 ) -> Stepped
     requires { ⌜ (0 < n) × (n ≤ largest) × (length (now key) ≡ 16 * n) × (length (now block) ≡ 16 * n)
         × (at + hash .draws n ≤ length (now words)) ⌝ }
-    ensures { λ r. ⌜ (hash .compress n (publics n (hash .standard .start)) (marked n (replicate 16 c) (now (key .entry))) (now (words .entry)) at
+    ensures { λ r. ⌜ (hash .compress n (publics n (hash .standard .start))
+        (marked n (replicate 16 c) (now (key .entry))) (now (words .entry)) at
         ≡ (used n (r .chain .shares), r .at))
         × (r .at ≡ at + hash .draws n) ⌝ }
 {

@@ -4,10 +4,12 @@ use mathlib.Core.Path.{_≡_, refl, sym, ap, ap₂, _∙_}
 use mathlib.Core.List.{List, [], _∷_, _++_}
 use native.Mathlib.Numerals.{add-one}
 use native.Mathlib.Omega.{arith}
-use native.Mathlib.Nat.{zero-add, add-zero, add-mul, suc-add, suc-mul, zero-mul, mul-comm, mul-assoc, mul-le-mul-right, sub-zero}
+use native.Mathlib.Nat.{zero-add, add-zero, add-mul, suc-add, suc-mul, zero-mul, mul-comm, mul-assoc, mul-le-mul-right}
+use native.Mathlib.Nat.{sub-zero}
 use lib.Bits.{bitXor}
 use lib.ListN.{length, getD, set, take, drop, replicate, length-append, length-drop, length-replicate}
-use lib.Seq.{drop-cons, take-at, take-all, take-take, take-add, drop-drop, take-append-le, drop-append-le, drop-append-add}
+use lib.Seq.{drop-cons, take-at, take-all, take-take, take-add, drop-drop, take-append-le, drop-append-le}
+use lib.Seq.{drop-append-add}
 use lib.Seq.{take-nil}
 use mir.Syntax.{w64}
 use mir.Val.{Fits}
@@ -30,7 +32,8 @@ H = SHA1 32
 
 -- ---- the mask of one word: what was drawn for it, opened
 pub mask-made : (n at p r : ℕ) (ws m : List ℕ) → n ≤ 8
-    → next (length {A = ℕ} (take (n - 1 - 0) (replicate 8 0))) ws at ≡ (m, p) → r ≡ opened m → r ≡ opened (next (n - 1) ws at .0)
+    → next (length {A = ℕ} (take (n - 1 - 0) (replicate 8 0))) ws at ≡ (m, p) → r ≡ opened m
+    → r ≡ opened (next (n - 1) ws at .0)
 mask-made n at p r ws m few e f =
     let lent : length {A = ℕ} (take (n - 1 - 0) (replicate 8 0)) ≡ n - 1 =
     ap length (lent-zeros 8 (n - 1) (omega arith)) ∙ length-replicate {A = ℕ} (n - 1) 0 in
@@ -84,7 +87,8 @@ unfolding next
 next-part ws zero at h = refl
 next-part ws (suc m) at h =
     rw (drop-cons ws at 0 (omega arith))
-    (ap (λ (l : List ℕ). getD ws at 0 ∷ l) (next-part ws m (at + 1) (omega arith) ∙ ap (λ t. take m (drop t ws)) (add-one at)))
+    (ap (λ (l : List ℕ). getD ws at 0 ∷ l)
+    (next-part ws m (at + 1) (omega arith) ∙ ap (λ t. take m (drop t ws)) (add-one at)))
 
 pub share-made : (last at : ℕ) (z ws d : List ℕ) → 0 < length z → at + (length z - 1) ≤ length ws
     → (let m = length z - 1 in d ≡ take (at + m - at) (drop at ws)
@@ -107,8 +111,10 @@ module _ (i l d at have : ℕ) (h : i < l) (room : at + l * d ≤ have) where
   index-room m n e f = rw (f, ← e) (omega (arith, mul-le-mul-right d h, suc-mul i d))
 
 -- ---- zeros after words: a part of so much is the same with more of them
-pub part-same : (d m room : ℕ) (s : List ℕ) → d + m ≤ room → take m (drop d (filled (d + m) s)) ≡ take m (drop d (filled room s))
-part-same d m room s h = part-of d (filled (d + m) s) ∙ ap (drop d) (front s (d + m) room h) ∙ sym (part-of d (filled room s))
+pub part-same : (d m room : ℕ) (s : List ℕ) → d + m ≤ room
+    → take m (drop d (filled (d + m) s)) ≡ take m (drop d (filled room s))
+part-same d m room s h = part-of d (filled (d + m) s) ∙ ap (drop d) (front s (d + m) room h)
+    ∙ sym (part-of d (filled room s))
   where
     part-of : (d : ℕ) (x : List ℕ) → take m (drop d x) ≡ drop d (take (d + m) x)
     part-of zero x = rw zero-add
@@ -157,7 +163,8 @@ module _ (n : ℕ) (some : 0 < n) (ws : List ℕ) where
   unfolding held
   held-at [] at i h = absurd (omega arith)
   held-at (last ∷ lasts) at zero h =
-      word-first (one last at) (held n lasts ws (at + (n - 1))) (length-one last at) ∙ rw (zero-mul (n - 1), add-zero at)
+      word-first (one last at) (held n lasts ws (at + (n - 1))) (length-one last at)
+      ∙ rw (zero-mul (n - 1), add-zero at)
   held-at (last ∷ lasts) at (suc i) h =
       let q : at + (n - 1) + i * (n - 1) ≡ at + suc i * (n - 1) = omega (arith, suc-mul i (n - 1)) in
       word-later i (one last at) (held n lasts ws (at + (n - 1))) (length-one last at)
@@ -173,7 +180,8 @@ module _ (n : ℕ) (some : 0 < n) (ws : List ℕ) where
         let z : List ℕ = replicate (room - length s) 0 in
         let inside : i * n + n ≤ length s = omega (arith, length-held lasts at, mul-le-mul-right n h, suc-mul i n) in
         let left : n ≤ length (drop (i * n) s) = rw (length-drop (i * n) s) (omega arith) in
-        ap (take n) (drop-append-le (i * n) s z (omega arith)) ∙ take-append-le n (drop (i * n) s) z left ∙ held-at lasts at i h
+        ap (take n) (drop-append-le (i * n) s z (omega arith)) ∙ take-append-le n (drop (i * n) s) z left
+        ∙ held-at lasts at i h
 
     word-zeros : (room : ℕ) → length lasts ≤ i → i * n + n ≤ room → word n i (filled room s) ≡ replicate n 0
     unfolding word
@@ -208,7 +216,8 @@ module _ (n : ℕ) (lasts ws : List ℕ) (at j : ℕ) where
   block-begins z = rw (zero-mul n)
 
   pub block-next : (w : ℕ) (z y : List ℕ) → w < 16
-      → (let i = 16 * j + w in take (w * n + n) y ≡ take (w * n) z ++ word n i (filled (i * n + n) (held n lasts ws at)))
+      → (let i = 16 * j + w in
+      take (w * n + n) y ≡ take (w * n) z ++ word n i (filled (i * n + n) (held n lasts ws at)))
       → take (w * n) z ≡ take (w * n) block → take ((w + 1) * n) y ≡ take ((w + 1) * n) block
   unfolding word
   block-next w z y h e p =
@@ -226,10 +235,12 @@ module _ (n : ℕ) (lasts ws : List ℕ) (at j : ℕ) where
       (e ∙ ap₂ (λ (a b : List ℕ). a ++ b) front same
       ∙ sym (take-take (w * n + n) (16 * n) rest fits ∙ take-add (w * n) n rest))
 
-  pub block-end : (w : ℕ) (z : List ℕ) → 16 ≤ w → w ≤ 16 → length z ≡ 16 * n → take (w * n) z ≡ take (w * n) block → z ≡ block
+  pub block-end : (w : ℕ) (z : List ℕ) → 16 ≤ w → w ≤ 16 → length z ≡ 16 * n → take (w * n) z ≡ take (w * n) block
+      → z ≡ block
   block-end w z h l e p =
       let all : w ≡ 16 = omega arith in
-      sym (take-all (16 * n) z (omega arith)) ∙ rw all at p ∙ take-take (16 * n) (16 * n) (drop (j * (16 * n)) whole) (omega arith)
+      sym (take-all (16 * n) z (omega arith)) ∙ rw all at p
+      ∙ take-take (16 * n) (16 * n) (drop (j * (16 * n)) whole) (omega arith)
 
 -- ---- the words in shares are those of the rule
 pub splits-held : (n : ℕ) (ws vs : List ℕ) (at : ℕ)
@@ -238,5 +249,6 @@ unfolding splits split held lastShares
 splits-held n ws [] at = rw (zero-mul (n - 1), add-zero at)
 splits-held n ws (v ∷ vs) at =
     let after : next (n - 1) ws at .1 ≡ at + (n - 1) = next-rule (n - 1) .place ws at in
-    let q : at + (n - 1) + length vs * (n - 1) ≡ at + suc (length vs) * (n - 1) = omega (arith, suc-mul (length vs) (n - 1)) in
+    let q : at + (n - 1) + length vs * (n - 1)
+    ≡ at + suc (length vs) * (n - 1) = omega (arith, suc-mul (length vs) (n - 1)) in
     rw (after, splits-held n ws vs (at + (n - 1)), q)

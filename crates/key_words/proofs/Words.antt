@@ -22,10 +22,17 @@ key-past (v ∷ l) (suc i) h = key-past l i (omega arith)
 
 module _ (key : List ℕ) (i : ℕ) where
   number-is : numberOf 4 (drop (4 * i) key)
-      ≡ ((getD key (4 * i) 0 * 256 + getD key (4 * i + 1) 0) * 256 + getD key (4 * i + 2) 0) * 256 + getD key (4 * i + 3) 0
+      ≡ ((getD key (4 * i) 0 * 256 + getD key (4 * i + 1) 0) * 256 + getD key (4 * i + 2) 0) * 256
+      + getD key (4 * i + 3) 0
   unfolding numberOf
   number-is =
-      rw (getD-drop (4 * i) key 0 0, getD-drop (4 * i) key 1 0, getD-drop (4 * i) key 2 0, getD-drop (4 * i) key 3 0, add-zero (4 * i))
+      rw (
+        getD-drop (4 * i) key 0 0,
+        getD-drop (4 * i) key 1 0,
+        getD-drop (4 * i) key 2 0,
+        getD-drop (4 * i) key 3 0,
+        add-zero (4 * i),
+      )
       (omega arith)
 
   pub number-made : {a b c d r : ℕ} → a ≡ getD key (4 * i) 0 → b ≡ getD key (4 * i + 1) 0
@@ -38,7 +45,12 @@ module _ (key : List ℕ) (i : ℕ) where
       let r = m * 4 - length key in
       number-is
       ∙ sym (word-of m (filled (m * 4) key) i h
-      ∙ rw (filled-at key r (4 * i), filled-at key r (4 * i + 1), filled-at key r (4 * i + 2), filled-at key r (4 * i + 3)))
+      ∙ rw (
+        filled-at key r (4 * i),
+        filled-at key r (4 * i + 1),
+        filled-at key r (4 * i + 2),
+        filled-at key r (4 * i + 3),
+      ))
     where
       filled-at : (key : List ℕ) (r i : ℕ) → getD (key ++ replicate r 0) i 0 ≡ getD key i 0
       filled-at [] zero i = refl

@@ -78,7 +78,8 @@ pub fn last_shares(n: usize, key: &[u8], z: &mut [u32], words: &[u32], at: usize
 
 // ---- in shares again
 
-// z becomes a word in shares: those that stand in the supply, where they were drawn from the place `at` on, and the last.
+// z becomes a word in shares: those that stand in the supply, where they were drawn from the place `at` on, and the
+// last.
 fn share_word(last: u32, z: &mut [u32], words: &[u32], at: usize)
     requires { ⌜ (0 < length (now z)) × (at + (length (now z) - 1) ≤ length (now words)) ⌝ }
     ensures { λ _. ⌜ now (z .exit) ≡ next (length (now (z .entry)) - 1) (now (words .entry)) at .0 ++ (last ∷ []) ⌝ }

@@ -99,7 +99,8 @@ module _ (n : ℕ) (key ws : List ℕ) (at : ℕ) where
     pub hash-room : (p : ℕ) → p ≡ at + m * (n - 1) → p + blocksIn l * hash .draws n ≤ have
     hash-room p e = omega (arith, long-draws long, rw many at e)
 
-  pub key-hashed : (m p : ℕ) (lasts : List ℕ) {d : List ℕ} {q : ℕ} → m ≡ count → lasts ≡ lastShares n (keyWords H m key) ws at
+  pub key-hashed : (m p : ℕ) (lasts : List ℕ) {d : List ℕ} {q : ℕ} → m ≡ count
+      → lasts ≡ lastShares n (keyWords H m key) ws at
       → p ≡ at + m * (n - 1) → blocks hash n (blocksIn l) (padded n l (held n lasts ws at)) (publics n H0) ws p ≡ (d, q)
       → hashKey hash n key ws at ≡ (filled (16 * n) d, q)
   unfolding hashKey
@@ -122,14 +123,16 @@ module _ (n : ℕ) (key ws : List ℕ) (at : ℕ) where
   short-room m have e h = rw e h
 
   pub short-made : (m p : ℕ) (lasts z : List ℕ) → 0 < n → m ≡ 16 → lasts ≡ lastShares n (keyWords H m key) ws at
-      → p ≡ at + m * (n - 1) → z ≡ take (16 * n) (drop (0 * (16 * n)) (filled (0 * (16 * n) + 16 * n) (held n lasts ws at)))
+      → p ≡ at + m * (n - 1)
+      → z ≡ take (16 * n) (drop (0 * (16 * n)) (filled (0 * (16 * n) + 16 * n) (held n lasts ws at)))
       → splits n (keyWords H 16 key) ws at ≡ (z, p)
   short-made m p lasts z some e f g h =
       let vs = keyWords H 16 key in
       let many : length vs ≡ 16 = length-words 4 16 (filled 64 key) in
       let kept : lasts ≡ lastShares n vs ws at = f ∙ rw e in
       let s = held n (lastShares n vs ws at) ws at in
-      let long : length s ≡ 16 * n = length-held n some ws (lastShares n vs ws at) at ∙ rw (length-lasts n ws vs at, many) in
+      let long : length s ≡ 16 * n = length-held n some ws (lastShares n vs ws at) at
+      ∙ rw (length-lasts n ws vs at, many) in
       let rest : List ℕ = replicate (16 * n - length s) 0 in
       let is : z ≡ s = h ∙ rw (kept, zero-mul (16 * n), zero-add) (take-at s rest (16 * n) long) in
       splits-held n ws vs at ∙ rw (is, g, e, many)

@@ -60,7 +60,8 @@ fn padded_block(
     mark(n, &values, z);
 }
 
-// The key of so many bytes, hashed from the word at p on. Its words were split from the word at `at` on. `block` is room
+// The key of so many bytes, hashed from the word at p on. Its words were split from the word at `at` on. `block` is
+// room
 // for one.
 fn hash_key(
     n: usize,
@@ -74,7 +75,8 @@ fn hash_key(
     requires { ⌜ (0 < n) × (n ≤ largest) × (bytes ≤ longestKey) × (length (now block) ≡ 16 * n)
         × (at + length (now lasts) * (n - 1) ≤ length (now words))
         × (p + blocksIn bytes * hash .draws n ≤ length (now words)) ⌝ }
-    ensures { λ r. ⌜ blocks hash n (blocksIn bytes) (padded n bytes (held n (now (lasts .entry)) (now (words .entry)) at))
+    ensures { λ r. ⌜ blocks hash n (blocksIn bytes)
+        (padded n bytes (held n (now (lasts .entry)) (now (words .entry)) at))
         (publics n (hash .standard .start)) (now (words .entry)) p
         ≡ (used n (r .chain .shares), r .at) ⌝ }
 {
@@ -105,7 +107,8 @@ fn digest_block(n: usize, chain: Chain, z: &mut [u32])
     shares::copy(digest, front);
 }
 
-// The key's words split, then hashed, from the word at `at` on. `lasts` is room for the last shares, `block` for a block.
+// The key's words split, then hashed, from the word at `at` on. `lasts` is room for the last shares, `block` for a
+// block.
 fn key_digest(
     n: usize,
     key: &[u8],
@@ -124,7 +127,8 @@ fn key_digest(
     hash_key(n, key.len(), lasts, block, words, at, p)
 }
 
-// A key over one block into shares, from the word at `at` on; the place after. Until the digest stands there, `shares` is
+// A key over one block into shares, from the word at `at` on; the place after. Until the digest stands there, `shares`
+// is
 // room for a block.
 fn long_key(n: usize, key: &[u8], shares: &mut [u32], words: &[u32], at: usize) -> usize
     requires { ⌜ (0 < n) × (n ≤ largest) × (64 < length (now key)) × (length (now key) ≤ longestKey)

@@ -154,7 +154,8 @@ module _ (l j : ℕ) where
       rw front at (words-alike 0 4 (full * 16)) ∙ ap (replicate (full * 16)) (number-zeros 4 4) in
       ap (λ t. ending H 0 (replicate t 0)) whole
       ∙ ap (ending H 0) (sym (replicate-append-replicate {A = ℕ} (full * 64) (l % 64) 0))
-      ∙ ending-front H (sha1-proper 32) full 0 (replicate (full * 64) 0) (replicate (l % 64) 0) (length-replicate {A = ℕ} (full * 64) 0)
+      ∙ ending-front H (sha1-proper 32) full 0 (replicate (full * 64) 0) (replicate (l % 64) 0)
+      (length-replicate {A = ℕ} (full * 64) 0)
       ∙ ap₂ (λ x t. x ++ ending H t (replicate (l % 64) 0)) zero-words (zero-add (full * 64))
 
   pub pad-full : (m : ℕ) (z : List ℕ) → j < full → m ≡ 16 → z ≡ replicate m 0 → z ≡ take 16 (drop (16 * j) all)
@@ -176,7 +177,8 @@ module _ (l j : ℕ) where
       ∙ ap (take 16) (drop-at x (y ++ rest) (16 * j) (length-replicate {A = ℕ} (16 * j) 0))
       ∙ take-at y rest 16 refl))
 
-  pub pad-last : (z : List ℕ) → full ≤ j → z ≡ take 16 (drop (16 * (j - full)) (ending H (full * 64) (take {A = ℕ} (l % 64 - 0) (replicate 64 0))))
+  pub pad-last : (z : List ℕ) → full ≤ j
+      → z ≡ take 16 (drop (16 * (j - full)) (ending H (full * 64) (take {A = ℕ} (l % 64 - 0) (replicate 64 0))))
       → z ≡ take 16 (drop (16 * j) all)
   pad-last z h f =
       let x : List ℕ = replicate (full * 16) 0 in

@@ -230,7 +230,8 @@ module _ (n : ℕ) (key text : List ℕ) (words : Words 32 key) (bytes : Words 8
       let size = eqb-true (length key) (16 * n) (holds _ _ (p .1 .0)) in
       let k = key-opens n key words in
       rw ok
-      (hmacTag-is (sha1 32) n some (sha1-proper 32) sha1-chains (sha1-opening n some) K text key us 0 (k .1) bytes size (k .2))
+      (hmacTag-is (sha1 32) n some (sha1-proper 32) sha1-chains (sha1-opening n some) K text key us 0
+      (k .1) bytes size (k .2))
 
 -- ==== SHA-1: what the calls come to, on any state that has its type's sizes
 abbrev d : ℕ → ℕ

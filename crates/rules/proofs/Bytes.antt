@@ -191,7 +191,8 @@ bytes-alike c (suc m) h (suc i) = bytes-alike c m h i
 pub every-lt : (c size : ℕ) → c < 256 → numberOf size (replicate size c) < 2 ^ (8 * size)
 every-lt c size h = rw (← pow-bytes size) (number-lt size (replicate size c) (bytes-alike c size h))
 
-pub words-alike : (c size m : ℕ) → wordsOf size m (replicate (m * size) c) ≡ replicate m (numberOf size (replicate size c))
+pub words-alike : (c size m : ℕ)
+    → wordsOf size m (replicate (m * size) c) ≡ replicate m (numberOf size (replicate size c))
 unfolding wordsOf
 words-alike c size zero = refl
 words-alike c size (suc m) =

@@ -19,7 +19,8 @@ use Rattle.rules.specs.Hash.{Hash, blockBytes, chainWords, digestBytes, 
 use Rattle.rules.specs.Hash.{blocks, digest, keyBlock, hmac}
 use Rattle.rules.specs.Hmac.{everyByte, digestPadding}
 use Rattle.rules.proofs.Bytes.{words-join, words-zeros, bytes-are-words, padding-is-bytes, length-words, length-allBytes}
-use Rattle.rules.proofs.Bytes.{words-append, words-back, words-xor, words-alike, bytes-alike, map-each, all-bytes-are-bytes}
+use Rattle.rules.proofs.Bytes.{words-append, words-back, words-xor, words-alike, bytes-alike, map-each}
+use Rattle.rules.proofs.Bytes.{all-bytes-are-bytes}
 
 -- a chain of the hash's words
 abbrev pub Chained : Hash → List ℕ → Type 0

@@ -1,10 +1,12 @@
--- A key in shares: what splitting it makes, over any hash in shares. Of any Good that the hash keeps, its shares are Good
+-- A key in shares: what splitting it makes, over any hash in shares. Of any Good that the hash keeps, its shares are
+-- Good
 -- for the words of RFC 2104's key block.
 use Prim.Native.Nat.{ℕ, zero, suc, _+_, _-_, _*_, _/_, _≤_, _<_}
 use mathlib.Core.Path.{_≡_, refl, sym, ap, ap₂, _∙_, subst}
 use mathlib.Core.Bool.{Bool, true, false}
 use mathlib.Core.List.{List, [], _∷_, _++_, append-assoc, append-nil}
-use native.Mathlib.Nat.{suc-mul, zero-mul, add-mul, mul-comm, mul-assoc, div-lt-iff-lt-mul, mul-div-left, mul-div-right, mod-lt, div-add-mod'}
+use native.Mathlib.Nat.{suc-mul, zero-mul, add-mul, mul-comm, mul-assoc, div-lt-iff-lt-mul, mul-div-left, mul-div-right}
+use native.Mathlib.Nat.{mod-lt, div-add-mod'}
 use native.Mathlib.Omega.{arith}
 use lib.Bits.{bitXor, xor-zero-r}
 use lib.Dec.{leb, lit<}
@@ -13,7 +15,8 @@ use lib.Pow.{pow-pos}
 use Rattle.rules.specs.Supply.{Rule, Words}
 use Rattle.rules.specs.Numbers.{choose}
 use Rattle.rules.specs.Shares.{each}
-use Rattle.rules.specs.Hash.{Hash, blockBytes, chainWords, wordsOf, allBytes, padding, ended, ending, filled, digest, keyBlock}
+use Rattle.rules.specs.Hash.{Hash, blockBytes, chainWords, wordsOf, allBytes, padding, ended, ending, filled}
+use Rattle.rules.specs.Hash.{digest, keyBlock}
 use Rattle.rules.specs.Hash.{blocks as blocksOf}
 use Rattle.rules.specs.Sha1.{public}
 use Rattle.rules.specs.Hmac.{Masked, splits, marked, keyWords, wordsFor, hashKey, splitKey}
@@ -47,7 +50,8 @@ words-filled size m t b h l =
     let left : t * size - m * size ≡ more * size = omega arith in
     let zero-words : wordsOf size more (replicate (more * size) 0) ≡ replicate more 0 =
     words-alike 0 size more ∙ ap (replicate more) (number-zeros size size) in
-    let split : wordsOf size (m + more) (front ++ replicate (more * size) 0) ≡ wordsOf size m front ++ replicate more 0 =
+    let split : wordsOf size (m + more) (front ++ replicate (more * size) 0)
+    ≡ wordsOf size m front ++ replicate more 0 =
     words-append size m more front (replicate (more * size) 0) (length-filled (m * size) b h)
     ∙ ap (λ (z : List ℕ). wordsOf size m front ++ z) zero-words in
     let all : m + more ≡ t = omega arith in
@@ -56,7 +60,8 @@ words-filled size m t b h l =
     ∙ rw all at split))
 
 -- XOR with zeros
-pub each-zeros : (x : List ℕ) (r : ℕ) → length x ≡ r → (each bitXor x (replicate r 0) ≡ x) × (each bitXor (replicate r 0) x ≡ x)
+pub each-zeros : (x : List ℕ) (r : ℕ) → length x ≡ r
+    → (each bitXor x (replicate r 0) ≡ x) × (each bitXor (replicate r 0) x ≡ x)
 unfolding each
 each-zeros [] r h = let q : r ≡ 0 = omega arith in rw q (refl, refl)
 each-zeros (a ∷ x) zero h = absurd (omega arith)
@@ -88,8 +93,11 @@ module _ (H : Hash) (proper : Proper H) (key : List ℕ) where
   abbrev pub hashedText : List ℕ
   hashedText = each bitXor (filled (length pad) held) pad
 
+  abbrev pub hashedWords : List ℕ
+  hashedWords = filled 16 (blocksOf H (length pad / 16) hashedText (H .start))
+
   abbrev pub sharedWords : List ℕ
-  sharedWords = choose (leb l B) (keyWords H 16 key) (filled 16 (blocksOf H (length pad / 16) hashedText (H .start)))
+  sharedWords = choose (leb l B) (keyWords H 16 key) hashedWords
 
   as-long : length none-of ≡ l
   as-long = length-replicate {A = ℕ} l 0
@@ -101,7 +109,8 @@ module _ (H : Hash) (proper : Proper H) (key : List ℕ) where
   pad-blocks = ap (λ t. t / 16) pad-length ∙ mul-div-right ((l + H .lengthBytes) / B + 1) (lit< tt)
 
   ended-size : length (ended H 0 none-of) ≡ length pad * size
-  ended-size = ended-length H proper 0 0 (sym (zero-mul B)) none-of ∙ rw (pad-length, as-long) (regroup ((l + H .lengthBytes) / B + 1))
+  ended-size = ended-length H proper 0 0 (sym (zero-mul B)) none-of
+      ∙ rw (pad-length, as-long) (regroup ((l + H .lengthBytes) / B + 1))
     where
       regroup : (q : ℕ) → 16 * size * q ≡ 16 * q * size
       regroup q = mul-assoc 16 size q ∙ ap (λ t. 16 * t) (mul-comm size q) ∙ sym (mul-assoc 16 q size)
@@ -117,7 +126,8 @@ module _ (H : Hash) (proper : Proper H) (key : List ℕ) where
 
   pub words-in : wordsFor H l ≤ length pad
   words-in =
-      let room : l + (size - 1) < (length pad + 1) * size = omega (arith, pads-to, proper .some, add-mul (length pad) 1 size) in
+      let room : l + (size - 1) < (length pad + 1) * size =
+      omega (arith, pads-to, proper .some, add-mul (length pad) 1 size) in
       omega (arith, div-lt-iff-lt-mul (proper .some) .1 room)
 
   -- texts of l bytes, with the padding after them
@@ -127,7 +137,8 @@ module _ (H : Hash) (proper : Proper H) (key : List ℕ) where
   ending-of : (text : List ℕ) → length text ≡ l → ending H 0 text ≡ wordsOf size (length pad) (text ++ after)
   unfolding ending ended
   ending-of text e =
-      let many : (l + length after) / size ≡ length pad = ap (λ t. t / size) pads-to ∙ mul-div-left (length pad) (proper .some) in
+      let many : (l + length after) / size ≡ length pad = ap (λ t. t / size) pads-to
+      ∙ mul-div-left (length pad) (proper .some) in
       ap (λ t. let p = text ++ padding H (0 + t) in wordsOf size (length p / size) p) e
       ∙ ap (λ t. wordsOf size (t / size) (text ++ after)) (length-append text after ∙ ap (λ t. t + length after) e)
       ∙ ap (λ t. wordsOf size t (text ++ after)) many
@@ -143,7 +154,8 @@ module _ (H : Hash) (proper : Proper H) (key : List ℕ) where
       let xored : each bitXor x y ≡ key ++ after =
       each-append bitXor key none-of (replicate left 0) after as-long
       ∙ ap₂ (λ (a b : List ℕ). a ++ b) (each-zeros key l refl .0) (each-zeros after left (omega (arith, pads-to)) .1) in
-      ap₂ (each bitXor) (words-filled size (wordsFor H l) (length pad) key words-hold words-in) (ending-of none-of as-long)
+      ap₂ (each bitXor) (words-filled size (wordsFor H l) (length pad) key words-hold words-in)
+      (ending-of none-of as-long)
       ∙ sym (words-xor size (length pad) x y (words-join 8 key (replicate left 0) bytes (words-zeros 8 left))
       (words-join 8 none-of after (words-zeros 8 l) (padding-is-bytes H (0 + l))) same (omega (arith, long)))
       ∙ ap (wordsOf size (length pad)) xored
@@ -153,7 +165,7 @@ module _ (H : Hash) (proper : Proper H) (key : List ℕ) where
   unfolding keyBlock digest
   shared-is chains bytes = go (leb l B)
     where
-      hashed : filled 16 (blocksOf H (length pad / 16) hashedText (H .start)) ≡ wordsOf size 16 (filled B (digest H key))
+      hashed : hashedWords ≡ wordsOf size 16 (filled B (digest H key))
       hashed =
           let W = ending H 0 key in
           let D = blocksOf H (length W / 16) W (H .start) in
@@ -164,11 +176,12 @@ module _ (H : Hash) (proper : Proper H) (key : List ℕ) where
           let none-left : c * size - length b ≡ 0 = omega (arith, long) in
           let back : wordsOf size c (filled (c * size) b) ≡ D =
           rw none-left (ap (wordsOf size c) (append-nil b) ∙ rw (chain .0) at (words-back size D (chain .1))) in
-          let blocks-same : length pad ≡ length W = pad-length ∙ sym (ending-length H proper 0 0 (sym (zero-mul B)) key) in
+          let blocks-same : length pad ≡ length W = pad-length
+          ∙ sym (ending-length H proper 0 0 (sym (zero-mul B)) key) in
           ap (filled 16) (ap₂ (λ t u. blocksOf H (t / 16) u (H .start)) blocks-same (text-is bytes) ∙ sym back)
           ∙ words-filled size c 16 b (omega (arith, long)) (proper .short)
 
-      go : (t : Bool) → choose t (keyWords H 16 key) (filled 16 (blocksOf H (length pad / 16) hashedText (H .start)))
+      go : (t : Bool) → choose t (keyWords H 16 key) hashedWords
           ≡ wordsOf size 16 (filled B (choose t key (digest H key)))
       go true = refl
       go false = hashed
@@ -204,7 +217,8 @@ module _ {M : Masked} {n : ℕ} {Fits : ℕ → Type 0} {Good : List ℕ → ℕ
       let left : t * n - length s ≡ (t - m) * n = omega (arith, goods-size (keeps .size) g) in
       let all : m + (t - m) ≡ t = omega arith in
       rw (left, how-many g)
-      (subst (λ i. Goods Good i (s ++ replicate ((t - m) * n) 0) (X ++ replicate (t - m) 0)) all (join g (zero-words (t - m))))
+      (subst (λ i. Goods Good i (s ++ replicate ((t - m) * n) 0) (X ++ replicate (t - m) 0)) all
+      (join g (zero-words (t - m))))
 
   module _ (key : List ℕ) (fits : (m i : ℕ) → Fits (getD (keyWords S m key) i 0)) where
     abbrev m : ℕ
@@ -216,24 +230,27 @@ module _ {M : Masked} {n : ℕ} {Fits : ℕ → Type 0} {Good : List ℕ → ℕ
     abbrev W : List ℕ
     W = pad S proper key
 
-    hash-rule : Rule (m * (n - 1) + ((length key + S .lengthBytes) / blockBytes S + 1) * M .draws n)
-        (λ z. Goods Good 16 z (filled 16 (blocksOf S (length W / 16) (hashedText S proper key) (S .start)))) (hashKey M n key)
+    abbrev drawn : ℕ
+    drawn = m * (n - 1) + ((length key + S .lengthBytes) / blockBytes S + 1) * M .draws n
+
+    hash-rule : Rule drawn (λ z. Goods Good 16 z (hashedWords S proper key)) (hashKey M n key)
     unfolding hashKey
     hash-rule =
         let whole : length W / 16 * 16 ≡ length W = omega (arith, pad-length S proper key) in
         let many : length words ≡ m = length-words (S .wordBytes) m (filled (m * S .wordBytes) key) in
+        let starts = publics-of keeps (chainWords S) (S .start) refl (keeps .starts) in
         let pads = publics-of keeps (length W) W refl
         (λ i b. keeps .fits _ (ending-words S proper 0 _ (words-zeros 8 (length key)) i)) in
         counted
         (bind (splits-rule words (fits m)) (λ s gs.
         let padded : Goods Good (length W / 16 * 16) (marked n W (filled (length W * n) s)) (hashedText S proper key) =
         rw whole (marked-of keeps (filled-of (length W) (rw many (words-in S proper key)) gs) pads) in
-        bind (blocks-rule keeps (length W / 16) padded (publics-of keeps (chainWords S) (S .start) refl (keeps .starts))) (λ d g.
-        give (λ z. Goods Good 16 z (filled 16 (blocksOf S (length W / 16) (hashedText S proper key) (S .start))))
-        (filled (16 * n) d) (filled-of 16 (proper .short) g))))
+        bind (blocks-rule keeps (length W / 16) padded starts) (λ d g.
+        give (λ z. Goods Good 16 z (hashedWords S proper key)) (filled (16 * n) d) (filled-of 16 (proper .short) g))))
         (rw (many, pad-blocks S proper key) (omega arith))
 
-    pub splitKey-rule : Rule (keyDraws M n (length key)) (λ z. Goods Good 16 z (sharedWords S proper key)) (splitKey M n key)
+    pub splitKey-rule : Rule (keyDraws M n (length key)) (λ z. Goods Good 16 z (sharedWords S proper key))
+        (splitKey M n key)
     unfolding splitKey
     splitKey-rule = go (leb (length key) (blockBytes S))
       where
@@ -241,8 +258,8 @@ module _ {M : Masked} {n : ℕ} {Fits : ℕ → Type 0} {Good : List ℕ → ℕ
         sixteen = length-words (S .wordBytes) 16 (filled (blockBytes S) key)
 
         go : (t : Bool)
-            → Rule (choose t (16 * (n - 1)) (m * (n - 1) + ((length key + S .lengthBytes) / blockBytes S + 1) * M .draws n))
-            (λ z. Goods Good 16 z (choose t (keyWords S 16 key) (filled 16 (blocksOf S (length W / 16) (hashedText S proper key) (S .start)))))
+            → Rule (choose t (16 * (n - 1)) drawn)
+            (λ z. Goods Good 16 z (choose t (keyWords S 16 key) (hashedWords S proper key)))
             (choose t (splits n (keyWords S 16 key)) (hashKey M n key))
         go true =
             said (splits-rule (keyWords S 16 key) (fits 16)) (ap (λ t. t * (n - 1)) sixteen)

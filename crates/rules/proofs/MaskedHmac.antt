@@ -58,7 +58,8 @@ module _ {M : Masked} {n : ℕ} {Fits : ℕ → Type 0} {Good : List ℕ → ℕ
           → Goods Good m (each bitXor z y) (each bitXor Z Y)
       xored none none = none
       xored (more {m} {X} {x} {s} g gs) (more {X = Y} {x = y} {s = t} h hs) =
-          rw (each-append bitXor x y s t (keeps .size y Y h ∙ sym (keeps .size x X g))) (more (keeps .xors g h) (xored gs hs))
+          rw (each-append bitXor x y s t (keeps .size y Y h ∙ sym (keeps .size x X g)))
+          (more (keeps .xors g h) (xored gs hs))
 
   -- ---- blocks in shares
   pub blocks-rule : (m : ℕ) {W S h C : List ℕ} → Goods Good (m * 16) W S → Goods Good c h C

@@ -8,7 +8,8 @@ use lib.ListN.{length, length-map, length-replicate}
 use Rattle.rules.specs.Supply.{Rule}
 use Rattle.rules.specs.Shares.{add}
 use Rattle.rules.specs.Convert.{Adder}
-use Rattle.rules.specs.Counts.{andDraws, addDraws, quarterAnds, roundsAnds, compressAnds, compressDraws, keyDraws, hmacDraws, sha1By, sha1}
+use Rattle.rules.specs.Counts.{andDraws, addDraws, quarterAnds, roundsAnds, compressAnds, compressDraws, keyDraws}
+use Rattle.rules.specs.Counts.{hmacDraws, sha1By, sha1}
 use Rattle.rules.specs.Hash.{Hash, chainWords, digestBytes, allBytes}
 use Rattle.rules.specs.Sha1.{openWords, public, rotl, compress}
 use Rattle.rules.specs.Hmac.{Masked, splitKey, hmacShares, hmacTag}

@@ -1,4 +1,5 @@
--- A split key opens to the key block, and the tag of a masked HMAC is the standard's: over any hash in shares, and of SHA-1.
+-- A split key opens to the key block, and the tag of a masked HMAC is the standard's: over any hash in shares, and of
+-- SHA-1.
 use Prim.Native.Nat.{ℕ, zero, suc, _+_, _*_, _-_, _%_, _^_, _<_}
 use mathlib.Core.Path.{_≡_, refl, sym, ap, _∙_}
 use mathlib.Core.List.{List, [], _∷_}

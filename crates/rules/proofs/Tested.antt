@@ -17,7 +17,8 @@ use Rattle.rules.specs.Supply.{Draw, Rule, split}
 use Rattle.rules.specs.Numbers.{largest, longestKey, longestMessage, both, allowed, fit, Test, test, first}
 use Rattle.rules.specs.Shares.{refresh, expand, and, add}
 use Rattle.rules.specs.Convert.{toBool, toArith}
-use Rattle.rules.specs.Counts.{refreshDraws, andDraws, addDraws, toBoolDraws, toArithDraws, compressDraws, keyDraws, hmacDraws, sha1}
+use Rattle.rules.specs.Counts.{refreshDraws, andDraws, addDraws, toBoolDraws, toArithDraws, compressDraws}
+use Rattle.rules.specs.Counts.{keyDraws, hmacDraws, sha1}
 use Rattle.rules.specs.Sha1.{compress, used, chainOf}
 use Rattle.rules.specs.Hmac.{splitKey, hmacTag}
 use Rattle.rules.specs.Calls.{oneTests, twoTests, openCall, query, compressCall}

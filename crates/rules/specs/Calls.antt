@@ -18,7 +18,8 @@ use Rattle.rules.specs.Sha1.{compress, used, chainOf}
 use Rattle.rules.specs.Hash.{Bytes, digestBytes}
 use Rattle.rules.specs.Standard.{SHA1}
 use Rattle.rules.specs.Hmac.{splitKey, hmacTag}
-use Rattle.rules.specs.Counts.{refreshDraws, andDraws, addDraws, toBoolDraws, toArithDraws, compressDraws, keyDraws, hmacDraws, sha1}
+use Rattle.rules.specs.Counts.{refreshDraws, andDraws, addDraws, toBoolDraws, toArithDraws, compressDraws}
+use Rattle.rules.specs.Counts.{keyDraws, hmacDraws, sha1}
 
 -- ---- two shares: working forms take plain numbers and refuse nothing
 -- x − r, from x′ and r with x = x′ ⊕ r

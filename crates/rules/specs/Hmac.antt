@@ -8,7 +8,8 @@ use Rattle.words.specs.Word.{Word}
 use Rattle.rules.specs.Supply.{Draw, Count, Sharing, split}
 use Rattle.rules.specs.Numbers.{choose}
 use Rattle.rules.specs.Shares.{each}
-use Rattle.rules.specs.Hash.{Bytes, Hash, blockBytes, chainWords, digestBytes, numberOf, wordsOf, allBytes, padding, ending}
+use Rattle.rules.specs.Hash.{Bytes, Hash, blockBytes, chainWords, digestBytes, numberOf, wordsOf, allBytes}
+use Rattle.rules.specs.Hash.{padding, ending}
 use Rattle.rules.specs.Hash.{filled}
 use Rattle.rules.specs.Sha1.{publics, openWords}
 
@@ -44,7 +45,8 @@ blocks M n (suc m) W h ws at =
     let c = M .compress n h (take (16 * n) W) ws at in
     blocks M n m (drop (16 * n) W) (c .0) ws (c .1)
 
--- A key's bytes as they stand, in m big-endian words, filled with zero bytes; ceil(l / bytes of a word) words hold l bytes
+-- A key's bytes as they stand, in m big-endian words, filled with zero bytes; ceil(l / bytes of a word) words hold l
+-- bytes
 abbrev pub keyWords : Hash → ℕ → Bytes → List Word
 keyWords H m key = wordsOf (H .wordBytes) m (filled (m * H .wordBytes) key)
 

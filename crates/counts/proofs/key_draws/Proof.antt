@@ -6,6 +6,11 @@ use Rattle.counts.proofs.Queries.{key-product, key-sum, short-draws, lo
 use Rattle.counts.proofs.key_draws.Statement.{statement}
 use Rattle.counts.proofs.key_draws.Tie as tie
 
+mul-result : tie.Need-mul-result-2
+mul-result c =
+    let s = c .before in
+    record { fits = omega (arith, key-product (s .args .n) (s .args .key) (s .pre .0) (s .pre .1)) }
+
 add-result : tie.Need-add-result
 add-result c =
     let s = c .before .before in
@@ -24,7 +29,7 @@ key-draws-spec =
     (λ c. search needs)
     (λ c. search needs)
     (λ c. omega (arith, some _ (c .before .pre .0)))
-    (λ c. let s = c .before in record { fits = omega (arith, key-product (s .args .n) (s .args .key) (s .pre .0) (s .pre .1)) })
+    mul-result
     (λ c κs. search needs)
     add-result
     (λ c. search (long-draws, needs)))

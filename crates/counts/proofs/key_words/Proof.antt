@@ -7,7 +7,8 @@ use Rattle.counts.proofs.key_words.Statement.{statement}
 use Rattle.counts.proofs.key_words.Tie as tie
 
 returns : tie.Need-returns
-returns c = query-refused _ _ _ (c .before .before .key-fitness .ensures) (c .before .if1 .taken) ∙ sym (c .answer .ensures)
+returns c = query-refused _ _ _ (c .before .before .key-fitness .ensures) (c .before .if1 .taken)
+    ∙ sym (c .answer .ensures)
 
 returns-2 : tie.Need-returns-2
 returns-2 c =

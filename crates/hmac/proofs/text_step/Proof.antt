@@ -17,7 +17,8 @@ abbrev Inv-loop : tie.InvT-loop
 Inv-loop n before text block₀ words at count c₀ p₀ j₀ block c p j =
     let W = ending (hash .standard) before text in
     (j ≤ count) × (length block ≡ 16 * n) × (count ≡ blocksIn (length text)) × (p ≡ at + j * hash .draws n)
-    × (Left n words (publics n W) count j (used n (c .shares)) p ≡ blocks hash n (blocksIn (length text)) (publics n W) (used n (c₀ .shares)) words at)
+    × (Left n words (publics n W) count j (used n (c .shares)) p
+    ≡ blocks hash n (blocksIn (length text)) (publics n W) (used n (c₀ .shares)) words at)
 
 abbrev μ-loop : tie.MeasureT-loop
 μ-loop n before text block₀ words at count c₀ p₀ j₀ block c p j = count - j

@@ -13,7 +13,8 @@ use Rattle.key_words.proofs.held_block.Tie as tie
 abbrev Inv-loop : tie.InvT-loop
 Inv-loop n lasts j z₀ words at w₀ z w =
     (w ≤ 16) × (length z ≡ 16 * n)
-    × (take (w * n) z ≡ take (w * n) (take (16 * n) (drop (j * (16 * n)) (filled (j * (16 * n) + 16 * n) (held n lasts words at)))))
+    × (let whole = filled (j * (16 * n) + 16 * n) (held n lasts words at) in
+    take (w * n) z ≡ take (w * n) (take (16 * n) (drop (j * (16 * n)) whole)))
 
 abbrev μ-loop : tie.MeasureT-loop
 μ-loop n lasts j z₀ words at w₀ z w = 16 - w
