@@ -45,11 +45,11 @@ blocks M n (suc m) W h ws at =
     let c = M .compress n h (take (16 * n) W) ws at in
     blocks M n m (drop (16 * n) W) (c .0) ws (c .1)
 
--- A key's bytes as they stand, in m big-endian words, filled with zero bytes; ceil(l / bytes of a word) words hold l
--- bytes
+-- A key's bytes as they stand, in m big-endian words, filled with zero bytes
 abbrev pub keyWords : Hash → ℕ → Bytes → List Word
 keyWords H m key = wordsOf (H .wordBytes) m (filled (m * H .wordBytes) key)
 
+-- how many words hold l bytes: ceil(l / bytes of a word)
 abbrev pub wordsFor : Hash → ℕ → ℕ
 wordsFor H l = (l + (H .wordBytes - 1)) / H .wordBytes
 

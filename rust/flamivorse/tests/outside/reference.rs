@@ -1,8 +1,10 @@
-//! The reference values of the rules that hold at 32 bits: P3, P5, P6 and P9 to P11.
+//! The reference values of the rules that hold at 32 bits: P3, P5, P6 and P9 to P11; and those of
+//! docs/RULES.md for a supply of given words.
 
 use crate::report;
 use flamivorse::{
-    a2b_words, and, b2a_2_record, b2a_words, expand, hmac_sha1_words, Drawn, Refusal,
+    a2b, a2b_words, add, and, b2a_2_record, b2a_words, expand, hmac_sha1_words, split_key, Drawn,
+    Refusal,
 };
 
 #[test]
@@ -20,6 +22,37 @@ fn shares() {
         (Ok(()), [0; 7])
     );
     report(3, "reference values of shares");
+}
+
+/// The words that docs/RULES.md lends.
+fn given_words(count: usize) -> Vec<u32> {
+    let word = |i: u32| (i + 1).wrapping_mul(0x9e37_79b9);
+    (0..).map(word).take(count).collect()
+}
+
+#[test]
+fn shares_by_given_words() {
+    let (mut z, mut x, mut key) = ([0; 2], [0; 8], [1; 32]);
+    let (one, other) = ([0x0123_4567, 0x89ab_cdef], [0xffff_ffff, 1]);
+    assert!(add(2, &one, &other, &mut z, &given_words(32)).is_ok());
+    assert_eq!(z, [0x2982_8944, 0xa10a_01c2]);
+    assert!(a2b(8, &[1, 2, 3, 4, 5, 6, 7, 8], &mut x, &given_words(1432)).is_ok());
+    assert_eq!(x[..4], [0xc3e0_9b4a, 0x320f_6d3e, 0xa06c_b9e4, 0x511f_f1f0]);
+    assert_eq!(x[4..], [0xdf39_f746, 0xea30_c992, 0x3b90_7614, 0x0e05_f684]);
+    let bytes: Vec<u8> = (0..66).collect();
+    let drawn = split_key(2, &bytes, &mut key, &given_words(20_897));
+    assert_eq!(drawn.map(Drawn::words), Ok(20_897));
+    assert_eq!(
+        key[..4],
+        [0xb4cd_5c0e, 0x7abd_0772, 0xf09a_f724, 0x904e_995a]
+    );
+    assert_eq!(
+        key[4..8],
+        [0x424d_278a, 0x74b3_20b7, 0x265d_8362, 0x9edf_a5fa]
+    );
+    assert_eq!(key[8..10], [0xf6a3_c5e7, 0xa13f_61f7]);
+    assert_eq!(key[10..], [0; 22]);
+    report(3, "values for given words");
 }
 
 #[test]
