@@ -23,9 +23,9 @@
  *   6  the state is finished, its share count is not 1, 2, 4 or 8, or its byte count is over 4,096
  * A refusal reports 0 words drawn and leaves every slice as it came. Where a call takes a state, 1 is never given.
  *
- * What stays behind: a call leaves shares on the stack below its caller and in registers, and flamivorse_split_key
- * bytes of the plain key. flamivorse_clear_stack clears both. What a program keeps in its own variables, a state among
- * them, is its own to clear.
+ * What stays behind: a call leaves shares on the stack below its caller and in registers, and splitting may leave bytes
+ * of the key or the value itself in registers. flamivorse_clear_stack clears both. What a program keeps in its own
+ * variables, a state among them, is its own to clear.
  *
  * By value: a chain or a state that is passed or handed back is copied by the caller's compiler, in registers as wide
  * as it likes, so that all shares of a word may stand in one, and copies stay in the caller's frame. No call can
