@@ -7,12 +7,12 @@ use native.Mathlib.Nat.{mul-zero, mul-le-mul}
 use native.Mathlib.Omega.{arith}
 use lib.Dec.{eqb}
 use Rattle.rules.specs.declared.Answer.{Answer}
-use borrow.Author.Tests.{le-leb, lt-leb}
 use Rattle.rules.specs.Numbers.{longestKey, choose, either, allowed, Test, test, first, settled, told}
 use Rattle.rules.specs.Counts.{compressDraws, keyDraws, sha1}
 use Rattle.rules.specs.Calls.{query}
 use Rattle.rules.proofs.Calls.{settled-refused, tells}
 use Rattle.rules.proofs.Sizes.{compress-count}
+use Rattle.rules.proofs.Keys.{short-draws, long-draws}
 use Rattle.rules.proofs.Allowed.{Taken, one, two, four, eight, counted, few}
 use Rattle.counts.specs.Queries.{byCount, byText}
 
@@ -151,9 +151,9 @@ module _ (n l : ℕ) (count : allowed n ≡ true) (short : l ≤ longestKey) whe
       let one : compressDraws 32 n ≤ most = rw (compress-count n) (omega (arith, pairs)) in
       omega (arith, key-product, mul-le-mul h one)
 
-  pub short-draws : l ≤ 64 → 16 * (n - 1) ≡ keyDraws (sha1 32) n l
-  short-draws h = rw (le-leb l 64 h)
+  pub short-told : l ≤ 64 → 16 * (n - 1) ≡ keyDraws (sha1 32) n l
+  short-told h = sym (short-draws (sha1 32) n l h)
 
-  pub long-draws : (hashed : ℕ) → 64 < l → hashed ≡ ((l + 8) / 64 + 1) * compressDraws 32 n
+  pub long-told : (hashed : ℕ) → 64 < l → hashed ≡ ((l + 8) / 64 + 1) * compressDraws 32 n
       → (l + 3) / 4 * (n - 1) + hashed ≡ keyDraws (sha1 32) n l
-  long-draws hashed h e = rw (lt-leb l 64 h, e)
+  long-told hashed h e = rw e (sym (long-draws (sha1 32) n l h))

@@ -20,7 +20,7 @@ use Rattle.rules.proofs.Openings.{each-drop, each-take}
 use Rattle.rules.proofs.Bytes.{length-words}
 use Rattle.rules.proofs.Hashes.{ending-length}
 use Rattle.rules.proofs.Tags.{sha1-proper}
-use Rattle.rules.proofs.Keys.{pad-blocks}
+use Rattle.rules.proofs.Keys.{pad-blocks, short-draws, long-draws}
 use Rattle.sha1.proofs.Parts.{used-lent, zeros-after}
 use Rattle.hash.specs.Hash.{hash}
 use Rattle.hash.proofs.Publics.{publics-part, start-used}
@@ -86,18 +86,15 @@ module _ (n : ℕ) (key ws : List ℕ) (at : ℕ) where
   abbrev count : ℕ
   count = (l + 3) / 4
 
-  long-draws : 64 < l → keyDraws hash n l ≡ count * (n - 1) + blocksIn l * hash .draws n
-  long-draws h = rw (lt-leb l 64 h)
-
   module _ (m have : ℕ) (long : 64 < l) (many : m ≡ count) (room : at + keyDraws hash n l ≤ have) where
     pub split-room : at + m * (n - 1) ≤ have
-    split-room = rw many (omega (arith, long-draws long))
+    split-room = rw many (omega (arith, long-draws hash n l long))
 
     pub held-room : (k : ℕ) → k ≡ m → at + k * (n - 1) ≤ have
     held-room k e = rw e split-room
 
     pub hash-room : (p : ℕ) → p ≡ at + m * (n - 1) → p + blocksIn l * hash .draws n ≤ have
-    hash-room p e = omega (arith, long-draws long, rw many at e)
+    hash-room p e = omega (arith, long-draws hash n l long, rw many at e)
 
   pub key-hashed : (m p : ℕ) (lasts : List ℕ) {d : List ℕ} {q : ℕ} → m ≡ count
       → lasts ≡ lastShares n (keyWords H m key) ws at
@@ -139,7 +136,7 @@ module _ (n : ℕ) (key ws : List ℕ) (at : ℕ) where
 
   module _ (short : l ≤ 64) where
     pub drawn-room : (have : ℕ) → at + keyDraws hash n l ≤ have → at + 16 * (n - 1) ≤ have
-    drawn-room have h = rw (le-leb l 64 short) at h
+    drawn-room have h = rw (short-draws hash n l short) at h
 
     pub short-case : (o : Run) → splits n (keyWords H 16 key) ws at ≡ o → splitKey hash n key ws at ≡ o
     unfolding splitKey

@@ -11,7 +11,7 @@ use lib.Dec.{lit<, lit≤}
 use lib.ListN.{length, take, drop, replicate, length-drop, take-append-drop}
 use lib.Pow.{pow-pos}
 use lib.Seq.{take-append-le, drop-append-le}
-use borrow.Author.Tests.{eq-eqb, le-leb, lt-leb}
+use borrow.Author.Tests.{eq-eqb, le-leb}
 use Rattle.words.proofs.Words.{xor-back}
 use Rattle.rules.specs.declared.Chain.{Chain}
 use Rattle.rules.specs.declared.Compressed.{Compressed}
@@ -35,6 +35,7 @@ use Rattle.rules.proofs.Conversion.{Adds, words-take, words-drop, add-a
 use Rattle.rules.proofs.Conversion.{toArith-rule, toArith-opens, there-and-back, back-and-there}
 use Rattle.rules.proofs.Allowed.{within, power-of}
 use Rattle.rules.proofs.MaskedHmac.{Keeps}
+use Rattle.rules.proofs.Keys.{short-draws, long-draws}
 use Rattle.rules.proofs.Sizes.{add-sizes, compress-sized, hmacTag-sized, splitKey-sized, sha1-size}
 use Rattle.rules.proofs.Sizes.{andDraws-twice, compress-count}
 use Rattle.rules.proofs.Opens.{Masks, sha1-opens, compress-opens}
@@ -56,10 +57,11 @@ add-count (suc m) = let e : suc m - 1 ≡ m = omega arith in rw e (omega (arith,
 -- a key of l bytes, split and, where it is over 64, hashed
 module _ (n l : ℕ) where
   pub short-count : l ≤ 64 → keyDraws (sha1 32) n l ≡ 16 * (n - 1)
-  short-count h = rw (le-leb l 64 h)
+  short-count = short-draws (sha1 32) n l
 
   pub long-count : 64 < l → keyDraws (sha1 32) n l ≡ (l + 3) / 4 * (n - 1) + ((l + 8) / 64 + 1) * (5220 * (n * (n - 1)))
-  long-count h = rw (lt-leb l 64 h) (ap (λ d. (l + 3) / 4 * (n - 1) + ((l + 8) / 64 + 1) * d) (compress-count n))
+  long-count h =
+      long-draws (sha1 32) n l h ∙ ap (λ d. (l + 3) / 4 * (n - 1) + ((l + 8) / 64 + 1) * d) (compress-count n)
 
 -- ---- the rules that draw a word for each share or pair
 pub expand-law : (n : ℕ) (x : List ℕ) → length x ≡ n → Rule n (Shares (2 * n) (opened x)) (expand x)

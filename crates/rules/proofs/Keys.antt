@@ -12,6 +12,7 @@ use lib.Bits.{bitXor, xor-zero-r}
 use lib.Dec.{leb, lit<}
 use lib.ListN.{length, getD, replicate, length-append, length-replicate, replicate-append-replicate}
 use lib.Pow.{pow-pos}
+use borrow.Author.Tests.{le-leb, lt-leb}
 use Rattle.rules.specs.Supply.{Rule, Words}
 use Rattle.rules.specs.Numbers.{choose}
 use Rattle.rules.specs.Shares.{each}
@@ -185,6 +186,15 @@ module _ (H : Hash) (proper : Proper H) (key : List ℕ) where
           ≡ wordsOf size 16 (filled B (choose t key (digest H key)))
       go true = refl
       go false = hashed
+
+-- ---- how many words it draws, by its length
+module _ (M : Masked) (n l : ℕ) where
+  pub short-draws : l ≤ blockBytes (M .standard) → keyDraws M n l ≡ 16 * (n - 1)
+  short-draws h = rw (le-leb l (blockBytes (M .standard)) h)
+
+  pub long-draws : blockBytes (M .standard) < l → (let H = M .standard in
+      keyDraws M n l ≡ wordsFor H l * (n - 1) + ((l + H .lengthBytes) / blockBytes H + 1) * M .draws n)
+  long-draws h = rw (lt-leb l (blockBytes (M .standard)) h)
 
 -- ---- in shares
 module _ {M : Masked} {n : ℕ} {Fits : ℕ → Type 0} {Good : List ℕ → ℕ → Type 0} (keeps : Keeps M n Fits Good)

@@ -2,7 +2,7 @@
 use native.Mathlib.Omega.{arith}
 use borrow.Author.Needs.{needs}
 use Rattle.rules.proofs.Allowed.{some, few}
-use Rattle.counts.proofs.Queries.{key-product, key-sum, short-draws, long-draws}
+use Rattle.counts.proofs.Queries.{key-product, key-sum, short-told, long-told}
 use Rattle.counts.proofs.key_draws.Statement.{statement}
 use Rattle.counts.proofs.key_draws.Tie as tie
 
@@ -23,7 +23,7 @@ key-draws-spec =
     (tie.spec
     (λ c. omega (arith, some _ (c .before .pre .0)))
     (λ c. omega (arith, few _ (c .before .pre .0)))
-    (λ c. search (short-draws, needs))
+    (λ c. search (short-told, needs))
     (λ c. search needs)
     (λ c. search needs)
     (λ c. search needs)
@@ -32,4 +32,4 @@ key-draws-spec =
     mul-result
     (λ c κs. search needs)
     add-result
-    (λ c. search (long-draws, needs)))
+    (λ c. search (long-told, needs)))
