@@ -78,9 +78,6 @@ pub lasts-fits : (w d at p count m have : ℕ) → count ≡ m → w < count →
 lasts-fits w d at p count m have same h e room b =
     record { fits = omega (arith, block-room w d at p count m same have h e room) }
 
-pub lasts-place : (w d at p l m : ℕ) → w ≤ m → l ≡ m → l ≤ w → p ≡ at + w * d → p ≡ at + m * d
-lasts-place w d at p l m h e f g = let all : w ≡ m = omega arith in rw all at g
-
 -- ---- a word in shares: those of the supply, and the last one
 next-part : (ws : List ℕ) (m at : ℕ) → at + m ≤ length ws → next m ws at .0 ≡ take m (drop at ws)
 unfolding next

@@ -5,16 +5,16 @@ use mathlib.Core.Path.{_≡_, refl}
 use lib.ListN.{length, take, length-set}
 use Rattle.rules.specs.Hmac.{keyWords}
 use Rattle.hash.specs.Hash.{hash}
-use Rattle.hash.proofs.Blocks.{block-room}
+use Rattle.hash.proofs.Blocks.{block-room, block-place}
 use Rattle.key_words.specs.Held.{lastShares}
-use Rattle.key_words.proofs.Held.{lasts-fits, lasts-next, lasts-end, lasts-place}
+use Rattle.key_words.proofs.Held.{lasts-fits, lasts-next, lasts-end}
 use Rattle.key_words.proofs.last_shares.Statement.{statement}
 use Rattle.key_words.proofs.last_shares.Tie as tie
 
 abbrev Inv-loop : tie.InvT-loop
 Inv-loop n key z₀ words at p₀ w₀ z p w =
     let m = length z₀ in
-    (w ≤ m) × (length z ≡ m) × (p ≡ at + w * (n - 1))
+    (w ≤ length z) × (length z ≡ m) × (p ≡ at + w * (n - 1))
     × (take w z ≡ take w (lastShares n (keyWords (hash .standard) m key) words at))
 
 abbrev μ-loop : tie.MeasureT-loop
@@ -25,7 +25,7 @@ loop-again c =
     let l = c .before .before .before .loop in
     let next = lasts-next _ _ _ _ _ (l .z) (l .inv .1) (l .w) (l .p) _ _ (search needs) (c .key-word .ensures)
     (c .before .mask-at .ensures) (l .inv .2) (l .inv .3) in
-    (search needs, simp length-set (search needs), search needs, next)
+    (simp length-set (search needs), simp length-set (search needs), search needs, next)
 
 pub last-shares-spec : {M : Type 1} → statement M
 last-shares-spec =
@@ -44,4 +44,4 @@ last-shares-spec =
     (λ c. search needs)
     loop-again
     (λ c. search needs)
-    (λ c. (search lasts-end, search lasts-place)))
+    (λ c. (search lasts-end, search block-place)))
