@@ -94,6 +94,13 @@ pub fn b2a(n: usize, x: &[u32], a: &mut [u32], words: &[u32]) -> Answer {
     call(n, &tests, a, words, |supply| rules::b2a(x, supply))
 }
 
+/// Turns n Boolean shares into n arithmetic ones "without a carry loop" (request (iv)). Tests 1, 2,
+/// 3, 5.
+pub fn b2a_short(n: usize, x: &[u32], a: &mut [u32], words: &[u32]) -> Answer {
+    let tests = [(2, x.len() != n), (3, a.len() != n)];
+    call(n, &tests, a, words, |supply| rules::b2a_short(x, supply))
+}
+
 /// Splits a key of up to 1,024 bytes into 16n words (section 2). One over 64 bytes is hashed too,
 /// "all within the splitting call, so number 5 counts both" (request (iii)). Tests 1, 3, 4, 5.
 pub fn split_key(n: usize, key: &[u8], shares: &mut [u32], words: &[u32]) -> Answer {

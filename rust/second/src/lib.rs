@@ -3,10 +3,10 @@
 //! are the rule document's, requests are named by their numbers, and quoted words are theirs.
 //!
 //! A call for n shares tests its arguments (section 3), works the rule out on vectors of its own
-//! (sections 2, 5 and 6), and only then writes its output, so that a refusal leaves every output
-//! as it came. The supply itself tells when it runs out, and the count reported is the place it
-//! ended at. Only the queries use formulas. The streaming calls go the same way, with the state in
-//! place of an output.
+//! (sections 2, 5 and 6, and the requests), and only then writes its output, so that a refusal
+//! leaves every output as it came. The supply itself tells when it runs out, and the count reported
+//! is the place it ended at. Only the queries use formulas. The streaming calls go the same way,
+//! with the state in place of an output.
 
 #![forbid(unsafe_code)]
 #![deny(missing_docs)]
@@ -16,6 +16,8 @@ mod numbers;
 mod queries;
 mod rules;
 mod sha1;
+#[cfg(test)]
+mod short_tests;
 mod stream;
 #[cfg(test)]
 mod stream_tests;
@@ -25,14 +27,14 @@ mod tests;
 mod two;
 
 pub use calls::{
-    a2b, add, and, b2a, expand, hmac_sha1, open_sum, open_xor, refresh, sha1_compress, split,
-    split_key,
+    a2b, add, and, b2a, b2a_short, expand, hmac_sha1, open_sum, open_xor, refresh, sha1_compress,
+    split, split_key,
 };
 pub use numbers::{Answer, Chain, Compressed, Opened, State, Streamed};
 pub use queries::{
-    a2b_words, add_words, and_words, b2a_words, expand_words, hmac_sha1_feed_words,
-    hmac_sha1_finish_words, hmac_sha1_start_words, hmac_sha1_words, refresh_words,
-    sha1_compress_words, split_key_words, split_words,
+    a2b_words, add_words, and_words, b2a_short_words, b2a_words, expand_words,
+    hmac_sha1_feed_words, hmac_sha1_finish_words, hmac_sha1_start_words, hmac_sha1_words,
+    refresh_words, sha1_compress_words, split_key_words, split_words,
 };
 pub use stream::{hmac_sha1_feed, hmac_sha1_finish, hmac_sha1_start};
 pub use two::{a2b_2, a2b_2_record, b2a_2, b2a_2_record};

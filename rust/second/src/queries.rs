@@ -1,6 +1,6 @@
 //! The queries: how many words a call will draw, by the formulas of sections 2, 5 and 6 and the
-//! words of requests (i) and (iii). Each gives number 0 and the count, or the call's refusal 1, 4
-//! or 6 and the count 0.
+//! words of requests (i), (iii) and (iv). Each gives number 0 and the count, or the call's refusal
+//! 1, 4 or 6 and the count 0.
 
 use crate::numbers::{first_refusal, first_state_refusal, would_pass_the_limit};
 use crate::numbers::{Answer, State, KEY_LIMIT, MESSAGE_LIMIT};
@@ -34,6 +34,14 @@ fn conversion(n: u64) -> u64 {
     match n {
         1 => 0,
         _ => 2 * conversion(n / 2) + n + addition(n),
+    }
+}
+
+/// Request (iv): "V(1) = 0 and V(n) = 3n−2 + 2V(n−1)".
+fn short_conversion(n: u64) -> u64 {
+    match n {
+        1 => 0,
+        _ => 3 * n - 2 + 2 * short_conversion(n - 1),
     }
 }
 
@@ -75,6 +83,11 @@ pub fn a2b_words(n: usize) -> Answer {
 /// What `b2a` draws (section 5): 2(n−1) + W(n) + 16n(n−1).
 pub fn b2a_words(n: usize) -> Answer {
     query(n, &[], |n| 2 * (n - 1) + conversion(n) + addition(n))
+}
+
+/// What `b2a_short` draws (request (iv)): V(n).
+pub fn b2a_short_words(n: usize) -> Answer {
+    query(n, &[], short_conversion)
 }
 
 /// What `split_key` draws: 16(n−1) for a key of up to 64 bytes (section 2), and for a longer one

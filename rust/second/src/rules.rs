@@ -1,5 +1,5 @@
-//! The rules for n shares (sections 2 and 5), at k = 32. The slices lent to a rule have the
-//! lengths it asks for, and a rule gives nothing when the supply runs out under it.
+//! The rules for n shares (sections 2 and 5, and request (iv)), at k = 32. The slices lent to a
+//! rule have the lengths it asks for, and a rule gives nothing when the supply runs out under it.
 
 use crate::supply::Supply;
 
@@ -45,8 +45,14 @@ fn double(x: &[u32]) -> Vec<u32> {
     x.iter().map(|xi| xi.wrapping_mul(2)).collect()
 }
 
-/// Section 5, refresh: "for i = 1 to n−1 draw s; yi = xi ⊕ s, and s is XORed into share n".
+/// Section 5's refresh, as `refresh` is called and as section 5's Boolean to arithmetic uses it.
 pub(crate) fn refresh(x: &[u32], supply: &mut Supply) -> Option<Vec<u32>> {
+    refresh_with_last(x, supply)
+}
+
+/// Section 5, refresh: "for i = 1 to n−1 draw s; yi = xi ⊕ s, and s is XORed into share n". It has
+/// its own name because request (iv) keeps this rule when request (v) changes `refresh`.
+pub(crate) fn refresh_with_last(x: &[u32], supply: &mut Supply) -> Option<Vec<u32>> {
     let n = x.len();
     let mut y = x.to_vec();
     for i in 1..n {
@@ -124,5 +130,55 @@ pub(crate) fn b2a(x: &[u32], supply: &mut Supply) -> Option<Vec<u32>> {
     let sum = add(x, &converted, supply)?;
     let refreshed = refresh(&sum, supply)?;
     a.push(open_xor(&refreshed));
+    Some(a)
+}
+
+/// Section 4: "Ψ(r) = (x' ⊕ r) − r".
+fn psi(x1: u32, r: u32) -> u32 {
+    (x1 ^ r).wrapping_sub(r)
+}
+
+/// Request (iv): "XOR the last entry into the one before"; the last entry is dropped, so that the
+/// list opens to the same word with one entry less.
+fn fold_last(list: &[u32]) -> Vec<u32> {
+    let last = list.len() - 1;
+    let mut shorter = list[..last].to_vec();
+    shorter[last - 1] ^= list[last];
+    shorter
+}
+
+/// Request (iv), of n+1 shares: "b has n entries, the Ψ of share 1 at each later share, and share 1
+/// is XORed into the first entry when n is even". So b opens to x minus the XOR of the later shares.
+fn psi_entries(shares: &[u32]) -> Vec<u32> {
+    let (share_1, later) = (shares[0], &shares[1..]);
+    let mut b: Vec<u32> = later.iter().map(|share| psi(share_1, *share)).collect();
+    if later.len().is_multiple_of(2) {
+        b[0] ^= share_1;
+    }
+    b
+}
+
+/// Request (iv), the short conversion, for any n from 1: "convert the first list, then the second,
+/// by the same rule at n−1; add the first n−2 places, then append the last of the first and the
+/// last of the second". The first list is shares 2 to n+1, the second is b.
+pub(crate) fn b2a_short(x: &[u32], supply: &mut Supply) -> Option<Vec<u32>> {
+    let n = x.len();
+    if n == 1 {
+        return Some(x.to_vec());
+    }
+    let mut shares = x.to_vec();
+    shares.push(0);
+    let shares = refresh_with_last(&shares, supply)?;
+    let b = psi_entries(&shares);
+    let first = refresh_with_last(&shares[1..], supply)?;
+    let second = refresh_with_last(&b, supply)?;
+    let first = b2a_short(&fold_last(&first), supply)?;
+    let second = b2a_short(&fold_last(&second), supply)?;
+    let mut a = Vec::new();
+    for i in 0..n - 2 {
+        a.push(first[i].wrapping_add(second[i]));
+    }
+    a.push(first[n - 2]);
+    a.push(second[n - 2]);
     Some(a)
 }

@@ -1,6 +1,6 @@
 //! Tests: the reference values and limits of section 7, every refusal of section 3, the order of
 //! draws, the openings against plain arithmetic and a plain SHA-1, and the long keys of request
-//! (iii). Streaming has tests of its own, which use the helpers here.
+//! (iii). Streaming and the short conversion have tests of their own, which use the helpers here.
 
 use crate::supply::Supply;
 use crate::*;
@@ -10,7 +10,7 @@ pub(crate) const COUNTS: [usize; 4] = [1, 2, 4, 8];
 /// Share counts that are refused.
 pub(crate) const WRONG_COUNTS: [usize; 7] = [0, 3, 5, 16, 1 << 28, usize::MAX / 16 + 2, usize::MAX];
 /// What stands in an output before a call.
-const BEFORE: u32 = 0xa5a5a5a5;
+pub(crate) const BEFORE: u32 = 0xa5a5a5a5;
 /// The starting chain of FIPS 180-4, 5.3.1.
 pub(crate) const START: [u32; 5] = [0x67452301, 0xefcdab89, 0x98badcfe, 0x10325476, 0xc3d2e1f0];
 
@@ -45,7 +45,7 @@ pub(crate) fn xor_of(shares: &[u32]) -> u32 {
     shares.iter().fold(0, |word, share| word ^ share)
 }
 
-fn sum_of(shares: &[u32]) -> u32 {
+pub(crate) fn sum_of(shares: &[u32]) -> u32 {
     shares
         .iter()
         .fold(0, |word: u32, share| word.wrapping_add(*share))
@@ -862,10 +862,11 @@ fn calls(n: usize, input: usize, second: usize, output: usize) -> Vec<(Answer, C
     let y = random_words(2, second as u64);
     type Rule1 = fn(usize, &[u32], &mut [u32], &[u32]) -> Answer;
     type Rule2 = fn(usize, &[u32], &[u32], &mut [u32], &[u32]) -> Answer;
-    let one: [(Answer, Rule1); 3] = [
+    let one: [(Answer, Rule1); 4] = [
         (refresh_words(n), refresh),
         (a2b_words(n), a2b),
         (b2a_words(n), b2a),
+        (b2a_short_words(n), b2a_short),
     ];
     let two: [(Answer, Rule2); 2] = [(and_words(n), and), (add_words(n), add)];
     let mut calls: Vec<(Answer, Call)> = Vec::new();
