@@ -20,21 +20,23 @@ use Rattle.rules.specs.Goubin.{b2aRecord, a2bRecord}
 use Rattle.rules.specs.Independent.{Independent}
 use Rattle.rules.specs.Shares.{refresh, expand, and, add}
 use Rattle.rules.specs.Convert.{toBool, toArith}
+use Rattle.rules.specs.Short.{toArithShort}
 use Rattle.rules.specs.Hash.{bytesOf, numberOf, wordsOf, allBytes, zeros, padding, ended, ending, blocks, digest, keyBlock}
 use Rattle.rules.specs.Hash.{hmac}
 use Rattle.rules.specs.Standard.{SHA1, ROTL, complement, Ch, Parity, Maj, f, schedule, round, rounds, sums, compress}
 use Rattle.rules.specs.Sha1.{openWords, used, compress as compressShares}
 use Rattle.rules.specs.Hmac.{splitKey, hmacTag}
-use Rattle.rules.specs.Counts.{addDraws, toBoolDraws, compressDraws, keyDraws, sha1}
+use Rattle.rules.specs.Counts.{addDraws, toBoolDraws, shortDraws, compressDraws, keyDraws, sha1}
 use Rattle.rules.specs.Calls.{call, b2aTwo, a2bTwo, b2aRecordCall, a2bRecordCall, splitCall, openXorCall, openSumCall}
-use Rattle.rules.specs.Calls.{refreshCall, expandCall, andCall, addCall, a2bCall, b2aCall, splitKeyCall, compressCall, hmacCall}
+use Rattle.rules.specs.Calls.{refreshCall, expandCall, andCall, addCall, a2bCall, b2aCall, b2aShortCall, splitKeyCall}
+use Rattle.rules.specs.Calls.{compressCall, hmacCall}
 use Rattle.rules.specs.Stream.{ReadAlike, state, start, feed, finish, startCall, feedCall, finishCall, closed}
 use Rattle.rules.specs.Stream.{Feeds, message, after, drawn, Accepted}
-use Rattle.rules.specs.Outcome.{Allowed, Fit, Whole, None, Asks, Done, Given, Settles, Follows, Makes}
-use Rattle.rules.proofs.Outcomes.{untested, says-eq, says-le, says-two, exactly, follows, makes, makes-as}
-use Rattle.rules.proofs.Outcomes.{only, done-only, open-settles, record-settles, record-independent}
+use Rattle.rules.specs.Outcome.{Power, Allowed, Fit, Whole, None, Asks, Done, Given, Settles, Follows, Makes}
+use Rattle.rules.proofs.Outcomes.{untested, says-power, says-count, says-eq, says-le, says-two, exactly, follows, makes}
+use Rattle.rules.proofs.Outcomes.{makes-as, only, done-only, open-settles, record-settles, record-independent}
 use Rattle.rules.proofs.AtCalls.{some, add-count, expand-law, and-law, add-law, toBool-law, toArith-law, toArith-sums}
-use Rattle.rules.proofs.AtCalls.{there-back, back-there, short-count, long-count, splitKey-law, split-opens}
+use Rattle.rules.proofs.AtCalls.{short-law, toArith-keeps, there-back, back-there, short-count, long-count, splitKey-law, split-opens}
 use Rattle.rules.proofs.AtCalls.{hmacTag-law, tags, xor-off}
 use Rattle.rules.proofs.AtCalls.{compress-outcome, compress-drawn, compress-past, compress-opens-to}
 use Rattle.rules.proofs.AtStreams.{start-outcome, start-count, start-past, feed-outcome, feed-count, feed-past}
@@ -44,6 +46,7 @@ use Rattle.rules.proofs.Openings.{opened-lt}
 use Rattle.rules.proofs.Pairs.{refresh-rule}
 use Rattle.rules.proofs.Addition.{add-rule, split-rule}
 use Rattle.rules.proofs.Conversion.{draws-one, draws-more}
+use Rattle.rules.proofs.Short.{short-more, short-closed, toArithShort-rule, toArithShort-opens}
 use Rattle.rules.proofs.Ends.{b2a-length, a2b-length, b2a-ends, a2b-ends}
 use Rattle.rules.proofs.Demand3.{b2a-independent, a2b-independent}
 use Rattle.rules.proofs.Calls.{one-outcome}
@@ -75,44 +78,58 @@ D-short = short-count
 pub D-long : (n l : ℕ) → 64 < l → D n l ≡ (l + 3) / 4 * (n - 1) + ((l + 8) / 64 + 1) * (5220 * (n * (n - 1)))
 D-long = long-count
 
+-- V(n), the words of the short conversion: V(1) = 0 and V(n) = 3n − 2 + 2V(n−1), which is 7·2^(n−1) − 3n − 4.
+pub V-one : shortDraws 1 ≡ 0
+unfolding shortDraws
+V-one = refl
+
+pub V-more : (n : ℕ) → 1 < n → shortDraws n ≡ 3 * n - 2 + 2 * shortDraws (n - 1)
+V-more = short-more
+
+pub V-closed : (n : ℕ) → 0 < n → shortDraws n ≡ 7 * 2 ^ (n - 1) - 3 * n - 4
+V-closed = short-closed
+
 -- The calls on n shares, each with what it asks of its input, how long its output is, what it asks of its text, how many
 -- words it draws and its rule. Refused, it reports 0 words drawn and the output stays as it came (`refused-leaves`).
 -- Accepted, output and count are the rule's, from place 0 (`accepted-is`), the count in closed form (`count`), and words
 -- after those drawn have no influence (`past-draws`).
 pub record CallsFollow (n : ℕ) : Type 0 where
-  pub split-follows : (value : ℕ) → Follows n None n None (n - 1) (split n value) (splitCall n value)
-  pub refresh-follows : (x : List ℕ) → Follows n (length x ≡ n) n None (n - 1) (refresh x) (refreshCall n x)
-  pub expand-follows : (x : List ℕ) → Follows n (length x ≡ n) (2 * n) None n (expand x) (expandCall n x)
+  pub split-follows : (value : ℕ) → Follows (Allowed n) None n None (n - 1) (split n value) (splitCall n value)
+  pub refresh-follows : (x : List ℕ) → Follows (Allowed n) (length x ≡ n) n None (n - 1) (refresh x) (refreshCall n x)
+  pub expand-follows : (x : List ℕ) → Follows (Allowed n) (length x ≡ n) (2 * n) None n (expand x) (expandCall n x)
   pub and-follows : (x y : List ℕ)
-      → Follows n ((length x ≡ n) × (length y ≡ n)) n None (n * (n - 1) / 2) (and x y) (andCall n x y)
+      → Follows (Allowed n) ((length x ≡ n) × (length y ≡ n)) n None (n * (n - 1) / 2) (and x y) (andCall n x y)
   pub add-follows : (x y : List ℕ)
-      → Follows n ((length x ≡ n) × (length y ≡ n)) n None (16 * (n * (n - 1))) (add 32 x y) (addCall 32 n x y)
+      → Follows (Allowed n) ((length x ≡ n) × (length y ≡ n)) n None (16 * (n * (n - 1))) (add 32 x y) (addCall 32 n x y)
   pub a2b-follows : (a : List ℕ) → Words 32 a
-      → Follows n (length a ≡ n) n None (W n) (toBool (add 32) a) (a2bCall 32 n a)
+      → Follows (Allowed n) (length a ≡ n) n None (W n) (toBool (add 32) a) (a2bCall 32 n a)
   pub b2a-follows : (x : List ℕ) → Words 32 x
-      → Follows n (length x ≡ n) n None (2 * (n - 1) + W n + 16 * (n * (n - 1)))
+      → Follows (Allowed n) (length x ≡ n) n None (2 * (n - 1) + W n + 16 * (n * (n - 1)))
       (toArith 32 (add 32) refresh x) (b2aCall 32 n x)
+  pub b2a-short-follows : (x : List ℕ)
+      → Follows (Power n) (length x ≡ n) n None (7 * 2 ^ (n - 1) - 3 * n - 4) (toArithShort 32 x) (b2aShortCall 32 n x)
   pub split-key-follows : (key : List ℕ)
-      → Follows n None (16 * n) (length key ≤ 1024) (D n (length key))
+      → Follows (Allowed n) None (16 * n) (length key ≤ 1024) (D n (length key))
       (splitKey (sha1 32) n key) (splitKeyCall 32 n key)
   pub hmac-follows : (key text : List ℕ)
-      → Follows n (length key ≡ 16 * n) 20 (length text ≤ 4096) (((length text + 8) / 64 + 4) * (5220 * (n * (n - 1))))
+      → Follows (Allowed n) (length key ≡ 16 * n) 20 (length text ≤ 4096) (((length text + 8) / 64 + 4) * (5220 * (n * (n - 1))))
       (hmacTag (sha1 32) n key text) (hmacCall 32 n key text)
 
 pub calls-follow : (n : ℕ) → CallsFollow n
 unfolding first test call
 calls-follow n =
     record {
-      split-follows = λ value. follows untested untested (λ c i t. split-rule n value (some n c));
-      refresh-follows = λ x. follows (says-eq (length x) n) untested (λ c i t. refresh-rule n x i);
-      expand-follows = λ x. follows (says-eq (length x) n) untested (λ c i t. expand-law n x i);
-      and-follows = λ x y. follows (says-two n x y) untested (λ c i t. and-law n x y i);
-      add-follows = λ x y. follows (says-two n x y) untested (λ c i t. add-law n x y i);
-      a2b-follows = λ a u. follows (says-eq (length a) n) untested (λ c i t. toBool-law n c a i u);
-      b2a-follows = λ x u. follows (says-eq (length x) n) untested (λ c i t. toArith-law n c x i u);
-      split-key-follows = λ key. follows untested (says-le (length key) 1024) (λ c i t. splitKey-law n c key);
+      split-follows = λ value. follows (says-count n) untested untested (λ c i t. split-rule n value (some n c));
+      refresh-follows = λ x. follows (says-count n) (says-eq (length x) n) untested (λ c i t. refresh-rule n x i);
+      expand-follows = λ x. follows (says-count n) (says-eq (length x) n) untested (λ c i t. expand-law n x i);
+      and-follows = λ x y. follows (says-count n) (says-two n x y) untested (λ c i t. and-law n x y i);
+      add-follows = λ x y. follows (says-count n) (says-two n x y) untested (λ c i t. add-law n x y i);
+      a2b-follows = λ a u. follows (says-count n) (says-eq (length a) n) untested (λ c i t. toBool-law n c a i u);
+      b2a-follows = λ x u. follows (says-count n) (says-eq (length x) n) untested (λ c i t. toArith-law n c x i u);
+      b2a-short-follows = λ x. follows (says-power n) (says-eq (length x) n) untested (λ c i t. short-law n c x i);
+      split-key-follows = λ key. follows (says-count n) untested (says-le (length key) 1024) (λ c i t. splitKey-law n c key);
       hmac-follows = λ key text.
-          follows (says-eq (length key) (16 * n)) (says-le (length text) 4096) (λ c i t. hmacTag-law n c key text i);
+          follows (says-count n) (says-eq (length key) (16 * n)) (says-le (length text) 4096) (λ c i t. hmacTag-law n c key text i);
     }
 
 -- An opening gives 0, 1 or 2: the XOR of the shares, or their sum modulo 2^32; refused, the word 0.
@@ -197,6 +214,12 @@ b2a-keeps n x u =
     makes (calls-follow n .b2a-follows x u)
     (λ c i t ws w. (toArith-law n c x i u .makes ws 0, toArith-sums n c x i u ws w))
 
+pub b2a-short-keeps : (n : ℕ) (x : List ℕ) → Words 32 x
+    → Makes 32 (b2aShortCall 32 n x) (λ a. (length a ≡ n) × (total a % 2 ^ 32 ≡ opened x))
+b2a-short-keeps n x u =
+    makes (calls-follow n .b2a-short-follows x)
+    (λ c i t ws w. (short-law n c x i .makes ws 0, toArithShort-opens 32 x ws 0 w u))
+
 pub there-and-back : (n : ℕ) (x : List ℕ) → Words 32 x
     → Makes 32 (b2aCall 32 n x) (λ a. Makes 32 (a2bCall 32 n a) (λ y. opened y ≡ opened x))
 there-and-back n x u = makes (calls-follow n .b2a-follows x u) (λ c i t. there-back n c x i u)
@@ -204,6 +227,19 @@ there-and-back n x u = makes (calls-follow n .b2a-follows x u) (λ c i t. there-
 pub back-and-there : (n : ℕ) (a : List ℕ) → Words 32 a
     → Makes 32 (a2bCall 32 n a) (λ x. Makes 32 (b2aCall 32 n x) (λ b. total b % 2 ^ 32 ≡ total a % 2 ^ 32))
 back-and-there n a u = makes (calls-follow n .a2b-follows a u) (λ c i t. back-there n c a i u)
+
+-- The short conversion at every width and of any number of shares: it keeps the secret, and draws V(n) words. So it opens
+-- to what the other does; of calls, b2a-keeps and b2a-short-keeps say so.
+module _ (k : ℕ) (x ws : List ℕ) (at : ℕ) where
+  pub short-keeps : Words k ws → Words k x → total (toArithShort k x ws at .0) % 2 ^ k ≡ opened x
+  short-keeps = toArithShort-opens k x ws at
+
+  pub short-draws : toArithShort k x ws at .1 ≡ at + shortDraws (length x)
+  short-draws = toArithShort-rule k x .place ws at
+
+  pub short-as-b2a : 0 < k → (p : ℕ) → length x ≡ 2 ^ p → Words k ws → Words k x → (vs : List ℕ) → Words k vs
+      → total (toArithShort k x ws at .0) % 2 ^ k ≡ total (toArith k (add k) refresh x vs at .0) % 2 ^ k
+  short-as-b2a wide p size w u vs v = short-keeps w u ∙ sym (toArith-keeps k wide p x size u vs at v)
 
 -- Splitting a key and tagging with its shares gives the bytes of RFC 2104 over FIPS 180-4, for all keys, of up to 1,024
 -- bytes, texts and words: in one call, and streamed, from any start, feeds and finish that are accepted.

@@ -6,9 +6,9 @@ ghost use mathlib.Core.List.{[], _∷_};
 ghost use Prim.Native.Nat.{_+_, _-_, _*_, _≤_};
 ghost use lib.Dec.{leb};
 ghost use Rattle.width.specs.Width.{bits};
-ghost use Rattle.rules.specs.Numbers.{longestKey, longestMessage, choose, allowed, fit, test, first};
+ghost use Rattle.rules.specs.Numbers.{longestKey, longestMessage, choose, power, allowed, fit, test, first};
 ghost use Rattle.rules.specs.Standard.{SHA1};
-ghost use Rattle.rules.specs.Counts.{refreshDraws, andDraws, addDraws, toBoolDraws, toArithDraws};
+ghost use Rattle.rules.specs.Counts.{refreshDraws, andDraws, addDraws, toBoolDraws, toArithDraws, shortDraws};
 ghost use Rattle.rules.specs.Counts.{compressDraws, compressions, keyDraws, hmacDraws, startDraws, feedDraws};
 ghost use Rattle.rules.specs.Counts.{finishDraws, sha1};
 ghost use Rattle.rules.specs.Calls.{query};
@@ -42,7 +42,7 @@ fn choose(asked: bool, a: usize, b: usize) -> usize
 
 // By the share count alone: a number for 2, 4 and 8 shares.
 fn by_count(n: usize, two: usize, four: usize, eight: usize) -> Answer
-    ensures { λ r. ⌜ record { number = first (test 1 (allowed n) ∷ []); drawn = byCount n two four eight } ≡ r ⌝ }
+    ensures { λ r. ⌜ record { number = first (test 1 (power n) ∷ []); drawn = byCount n two four eight } ≡ r ⌝ }
 {
     let drawn = choose(
         n == 2,
@@ -102,6 +102,13 @@ pub fn b2a_words(n: usize) -> Answer
     ensures { λ r. ⌜ query (test 1 (allowed n) ∷ []) (toArithDraws (addDraws bits) refreshDraws n) ≡ r ⌝ }
 {
     by_count(n, 68, 462, 2342)
+}
+
+// The short conversion: V(n).
+pub fn short_words(n: usize) -> Answer
+    ensures { λ r. ⌜ query (test 1 (power n) ∷ []) (shortDraws n) ≡ r ⌝ }
+{
+    by_count(n, 4, 40, 868)
 }
 
 // One compression: 5,220n(n − 1).

@@ -2,8 +2,8 @@
 // afterwards.
 ghost use mathlib.Core.Path.{_≡_};
 ghost use Rattle.rules.specs.Calls.{b2aTwo, a2bTwo, b2aRecordCall, a2bRecordCall, splitCall, openXorCall, openSumCall};
-ghost use Rattle.rules.specs.Calls.{refreshCall, expandCall, andCall, addCall, a2bCall, b2aCall};
-ghost use Rattle.rules.specs.Calls.{splitWords, refreshWords, expandWords, andWords, addWords, a2bWords, b2aWords};
+ghost use Rattle.rules.specs.Calls.{refreshCall, expandCall, andCall, addCall, a2bCall, b2aCall, b2aShortCall};
+ghost use Rattle.rules.specs.Calls.{splitWords, refreshWords, expandWords, andWords, addWords, a2bWords, b2aWords, b2aShortWords};
 ghost use Rattle.rules.specs.Calls.{splitKeyCall, compressCall, hmacCall, splitKeyWords, compressWords, hmacWords};
 ghost use Rattle.rules.specs.Stream.{startCall, feedCall, finishCall, startWords, feedWords, finishWords};
 ghost use Rattle.rules.specs.Counts.{sha1};
@@ -18,6 +18,7 @@ use counts::finish_words;
 use counts::hmac_words;
 use counts::key_words;
 use counts::refresh_words;
+use counts::short_words;
 use counts::start_words;
 use numbers::DONE;
 use numbers::answer;
@@ -26,6 +27,7 @@ use numbers::finishing;
 use numbers::key_splitting;
 use numbers::one_input;
 use numbers::opening;
+use numbers::short_input;
 use numbers::splitting;
 use numbers::tagging;
 use numbers::two_inputs;
@@ -219,6 +221,19 @@ pub extern "C" fn flamivorse_b2a(n: usize, x: &[u32], a: &mut [u32], words: &[u3
     answer(DONE, convert::to_arith(x, a, words, 0))
 }
 
+// The same by the short conversion, which draws fewer words.
+#[no_mangle]
+pub extern "C" fn flamivorse_b2a_short(n: usize, x: &[u32], a: &mut [u32], words: &[u32]) -> Answer
+    ensures { λ r. ⌜ b2aShortCall 32 n (now (x .entry)) (now (a .entry)) (now (words .entry)) ≡ (r, now (a .exit)) ⌝ }
+{
+    let need = short_words(n).drawn;
+    let number = short_input(n, x.len(), a.len(), need, words.len());
+    if number != DONE {
+        return answer(number, 0);
+    }
+    answer(DONE, short::to_arith_short(x, a, words, 0))
+}
+
 // ---- SHA-1 and HMAC
 
 // A key of at most 1,024 bytes into shares: 16n words. One over 64 bytes is hashed, in shares.
@@ -400,6 +415,13 @@ pub extern "C" fn flamivorse_b2a_words(n: usize) -> Answer
     ensures { λ r. ⌜ b2aWords 32 n ≡ r ⌝ }
 {
     b2a_words(n)
+}
+
+#[no_mangle]
+pub extern "C" fn flamivorse_b2a_short_words(n: usize) -> Answer
+    ensures { λ r. ⌜ b2aShortWords n ≡ r ⌝ }
+{
+    short_words(n)
 }
 
 #[no_mangle]

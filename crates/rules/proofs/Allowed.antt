@@ -5,7 +5,7 @@ use mathlib.Core.Bool.{Bool, true, false}
 use native.Mathlib.Omega.{arith}
 use lib.Dec.{eqb}
 use borrow.Author.Tests.{eqb-true}
-use Rattle.rules.specs.Numbers.{largest, either, allowed}
+use Rattle.rules.specs.Numbers.{largest, either, power, allowed}
 
 pub data Taken : ℕ → Type 0 where
   one : Taken 1
@@ -13,8 +13,8 @@ pub data Taken : ℕ → Type 0 where
   four : Taken 4
   eight : Taken 8
 
-pub counted : (n : ℕ) → allowed n ≡ true → Taken n
-unfolding allowed
+pub counted : (n : ℕ) → power n ≡ true → Taken n
+unfolding power
 counted n h = go (eqb n 1) (eqb n 2) (eqb n 4) (eqb n 8) refl refl refl refl h
   where
     go : (a b c d : Bool) → eqb n 1 ≡ a → eqb n 2 ≡ b → eqb n 4 ≡ c → eqb n 8 ≡ d → either a (either b (either c d)) ≡ true → Taken n
@@ -40,8 +40,7 @@ some n h = within n h .0
 pub few : (n : ℕ) → allowed n ≡ true → n ≤ largest
 few n h = within n h .1
 
--- a count is a power of two
-pub power-of : (n : ℕ) → allowed n ≡ true → (p : ℕ) × (n ≡ 2 ^ p)
+pub power-of : (n : ℕ) → power n ≡ true → (p : ℕ) × (n ≡ 2 ^ p)
 power-of n h = go (counted n h)
   where
     go : {n : ℕ} → Taken n → (p : ℕ) × (n ≡ 2 ^ p)

@@ -19,13 +19,14 @@ use Rattle.rules.specs.Supply.{Draw, Rule, Shares, Words, opened, total}
 use Rattle.rules.specs.Numbers.{allowed, test, first}
 use Rattle.rules.specs.Shares.{refresh, expand, and, add}
 use Rattle.rules.specs.Convert.{toBool, toArith}
+use Rattle.rules.specs.Short.{toArithShort}
 use Rattle.rules.specs.Hash.{wordsOf, keyBlock, hmac}
 use Rattle.rules.specs.Standard.{SHA1, compress as compressOf}
 use Rattle.rules.specs.Sha1.{openWords, compress, used, chainOf}
 use Rattle.rules.specs.Hmac.{splitKey, hmacTag}
-use Rattle.rules.specs.Counts.{andDraws, addDraws, refreshDraws, toBoolDraws, toArithDraws, keyDraws, sha1}
+use Rattle.rules.specs.Counts.{andDraws, addDraws, refreshDraws, toBoolDraws, toArithDraws, shortDraws, keyDraws, sha1}
 use Rattle.rules.specs.Calls.{call, compressCall, a2bCall, b2aCall, hmacCall}
-use Rattle.rules.specs.Outcome.{Allowed, None, Given, Settles, Makes}
+use Rattle.rules.specs.Outcome.{Power, Allowed, None, Given, Settles, Makes}
 use Rattle.rules.proofs.Loops.{length-used}
 use Rattle.rules.proofs.Rule.{said, counted}
 use Rattle.rules.proofs.Openings.{opened-lt}
@@ -33,6 +34,7 @@ use Rattle.rules.proofs.Pairs.{and-rule}
 use Rattle.rules.proofs.Addition.{expand-rule}
 use Rattle.rules.proofs.Conversion.{Adds, words-take, words-drop, add-adds, refresh-refreshes, toBool-rule}
 use Rattle.rules.proofs.Conversion.{toArith-rule, toArith-opens, there-and-back, back-and-there}
+use Rattle.rules.proofs.Short.{toArithShort-rule, short-closed}
 use Rattle.rules.proofs.Allowed.{within, power-of}
 use Rattle.rules.proofs.MaskedHmac.{Keeps}
 use Rattle.rules.proofs.Keys.{short-draws, long-draws}
@@ -40,7 +42,7 @@ use Rattle.rules.proofs.Sizes.{add-sizes, compress-sized, hmacTag-sized
 use Rattle.rules.proofs.Sizes.{andDraws-twice, compress-count}
 use Rattle.rules.proofs.Opens.{Masks, sha1-opens, compress-opens}
 use Rattle.rules.proofs.Tags.{sha1-proper, sha1-chains, splitKey-opens, hmacTag-is}
-use Rattle.rules.proofs.Outcomes.{says-count, says-eq, untested, passed, given, settles, settled-pair, asked}
+use Rattle.rules.proofs.Outcomes.{says-power, says-count, says-eq, untested, passed, given, settles, settled-pair, asked}
 use Rattle.rules.proofs.Outcomes.{place, says-supply, alike, as-long}
 
 -- ---- counts in closed form
@@ -77,6 +79,19 @@ module _ (n : ℕ) (x y : List ℕ) (sizes : (length x ≡ n) × (length y ≡ n
 adds : Adds 32 (addDraws 32) (add 32)
 adds = add-adds 32 (lit< tt)
 
+-- Boolean to arithmetic at any width, of 2^p shares
+pub toArith-keeps : (k : ℕ) → 0 < k → (p : ℕ) (x : List ℕ) → length x ≡ 2 ^ p → Words k x
+    → (ws : List ℕ) (at : ℕ) → Words k ws → total (toArith k (add k) refresh x ws at .0) % 2 ^ k ≡ opened x
+toArith-keeps k wide p x size u ws at =
+    toArith-opens k (addDraws k) (add k) (add-adds k wide) refreshDraws refresh refresh-refreshes p x size (opened-lt k x u) ws at
+
+-- the short conversion
+pub short-law : (n : ℕ) → Power n → (x : List ℕ) → length x ≡ n
+    → Rule (7 * 2 ^ (n - 1) - 3 * n - 4) (λ a. length a ≡ n) (toArithShort 32 x)
+short-law n count x size =
+    said (toArithShort-rule 32 x) (ap shortDraws size ∙ short-closed n (within n (passed (says-power n) count) .0))
+    (λ z g. g ∙ size)
+
 module _ (n : ℕ) (count : Allowed n) where
   ok : allowed n ≡ true
   ok = passed (says-count n) count
@@ -108,8 +123,7 @@ module _ (n : ℕ) (count : Allowed n) where
         (ap (toArithDraws (addDraws 32) refreshDraws) size ∙ omega (arith, add-count n)) (λ z g. g ∙ size)
 
     pub toArith-sums : (ws : List ℕ) → Words 32 ws → total (toArith 32 (add 32) refresh x ws 0 .0) % 2 ^ 32 ≡ opened x
-    toArith-sums ws =
-        toArith-opens 32 (addDraws 32) (add 32) adds refreshDraws refresh refresh-refreshes p x sized small ws 0
+    toArith-sums ws = toArith-keeps 32 (lit< tt) p x sized words ws 0
 
     pub there-back : (ws : List ℕ) → Words 32 ws
         → Makes 32 (a2bCall 32 n (toArith 32 (add 32) refresh x ws 0 .0)) (λ y. opened y ≡ opened x)

@@ -70,6 +70,13 @@ words-last k (a ∷ x) y h l (suc i) = words-last k x y (λ j. h (suc j)) l i
 pub words-drop : (k n : ℕ) (a : List ℕ) → Words k a → Words k (drop n a)
 words-drop k n a h i = rw (getD-drop n a i 0) (h (n + i))
 
+-- one share is its own sum
+pub one-adds : (k : ℕ) (a : List ℕ) → length a ≤ 1 → Words k a → openedSum k a ≡ opened a
+unfolding opened total
+one-adds k [] h w = zero-mod (2 ^ k)
+one-adds k (x ∷ []) h w = rw (add-zero x, xor-zero-r x) (mod-eq-of-lt (w 0))
+one-adds k (x ∷ y ∷ a) h w = absurd (omega arith)
+
 -- ---- the depth allowed does not matter, so long as it is enough
 halved-same : (f g : List ℕ → Draw (List ℕ)) (adder : Adder) (a ws : List ℕ) (at : ℕ) → 1 < length a
     → ((b : List ℕ) (s : ℕ) → length b < length a → f b ws s ≡ g b ws s)
@@ -156,15 +163,11 @@ module _ (k : ℕ) (d : ℕ → ℕ) (adder : Adder) (adds : Adds k d adder) whe
   -- ---- arithmetic to Boolean, of 2^p shares
   toBool-one-rule : (a : List ℕ) → length a ≡ 1 → Words k a
       → Rule (toBoolDraws d (length a)) (Shares (length a) (openedSum k a)) (toBool adder a)
-  unfolding opened total
-  toBool-one-rule [] h w = absurd (omega arith)
-  toBool-one-rule (x ∷ y ∷ a) h w = absurd (omega arith)
-  toBool-one-rule (x ∷ []) h w =
-      alike (λ ws at. toBool-one adder (x ∷ []) ws at (omega arith))
+  toBool-one-rule a h w =
+      alike (λ ws at. toBool-one adder a ws at (omega arith))
       (counted
-      (give (Shares 1 ((x + 0) % 2 ^ k)) (x ∷ [])
-      (refl, xor-zero-r x ∙ sym (ap (λ n. n % 2 ^ k) (add-zero x) ∙ mod-eq-of-lt (w 0))))
-      (sym (draws-one d 1 (omega arith))))
+      (give (Shares (length a) (openedSum k a)) a (refl, sym (one-adds k a (omega arith) w)))
+      (sym (draws-one d (length a) (omega arith))))
 
   pub toBool-rule : (p : ℕ) (a : List ℕ) → length a ≡ 2 ^ p → Words k a
       → Rule (toBoolDraws d (length a)) (Shares (length a) (openedSum k a)) (toBool adder a)

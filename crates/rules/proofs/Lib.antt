@@ -11,6 +11,7 @@ pub mod Loops
 pub mod Calls
 pub mod Functions
 pub mod Bytes
+pub mod Short
 pub mod Goods
 pub mod MaskedSha1
 pub mod Hashes

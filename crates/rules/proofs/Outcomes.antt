@@ -13,10 +13,10 @@ use lib.Seq.{length-take-le, getD-take}
 use borrow.Author.Tests.{eqb-true, eqb-false, leb-true, leb-false, le-leb}
 use Rattle.rules.specs.declared.Answer.{Answer}
 use Rattle.rules.specs.Supply.{Draw, Rule, Words}
-use Rattle.rules.specs.Numbers.{longestMessage, either, both, allowed, fit, Test, test, first, settled}
+use Rattle.rules.specs.Numbers.{longestMessage, either, both, power, allowed, fit, Test, test, first, settled}
 use Rattle.rules.specs.Independent.{Independent}
 use Rattle.rules.specs.Calls.{call, openCall, recordCall}
-use Rattle.rules.specs.Outcome.{Allowed, None, Asks, fails, holds, Done, Given}
+use Rattle.rules.specs.Outcome.{Power, Allowed, None, Asks, fails, holds, Done, Given}
 use Rattle.rules.specs.Outcome.{Settles, OnShares, Follows, Makes}
 
 -- ---- what a test says of the condition that it tests
@@ -59,9 +59,12 @@ says-either {A} {B} (no p) (no q) = no neither
     neither (inl x) = p x
     neither (inr y) = q y
 
+pub says-power : (n : ℕ) → Says (Power n) (power n)
+unfolding power
+says-power n = says-either (says-eq n 1) (says-either (says-eq n 2) (says-either (says-eq n 4) (says-eq n 8)))
+
 pub says-count : (n : ℕ) → Says (Allowed n) (allowed n)
-unfolding allowed
-says-count n = says-either (says-eq n 1) (says-either (says-eq n 2) (says-either (says-eq n 4) (says-eq n 8)))
+says-count = says-power
 
 pub says-fit : (n bytes finished : ℕ)
     → Says ((finished ≡ 0) × Allowed n × (bytes ≤ longestMessage)) (fit n bytes finished)
@@ -205,23 +208,24 @@ module _ {S A B : Type 0} {a b : Bool} (i j d : ℕ) {P : S → Type 0} (rule : 
         )
 
 -- ---- a call on shares follows its rule, which has its law where the call's tests are passed
-abbrev pub callOf : ℕ → Bool → ℕ → Bool → Draw (List ℕ) → OnShares
-callOf n input size text rule came =
-    call (test 1 (allowed n) ∷ test 2 input ∷ test 3 (eqb (length came) size) ∷ test 4 text ∷ []) rule came
+abbrev pub callOf : Bool → Bool → ℕ → Bool → Draw (List ℕ) → OnShares
+callOf count input size text rule came =
+    call (test 1 count ∷ test 2 input ∷ test 3 (eqb (length came) size) ∷ test 4 text ∷ []) rule came
 
-module _ (n size d : ℕ) {Input Text : Type 0} (input text : Bool) {P : List ℕ → Type 0} (rule : Draw (List ℕ))
-    (says-input : Says Input input) (says-text : Says Text text) (law : Allowed n → Input → Text → Rule d P rule) where
+module _ (size d : ℕ) {Count Input Text : Type 0} (count input text : Bool) {P : List ℕ → Type 0} (rule : Draw (List ℕ))
+    (says-n : Says Count count) (says-input : Says Input input) (says-text : Says Text text)
+    (law : Count → Input → Text → Rule d P rule) where
   abbrev of : OnShares
-  of = callOf n input size text rule
+  of = callOf count input size text rule
 
   module _ (came ws : List ℕ) where
     abbrev number : ℕ
     number = of came ws .0 .number
 
-    number-is : Given (Allowed n) Input (length came ≡ size) Text (d ≤ length ws) number
+    number-is : Given Count Input (length came ≡ size) Text (d ≤ length ws) number
     unfolding call
     number-is =
-        given (says-count n) says-input (says-eq (length came) size) says-text
+        given says-n says-input (says-eq (length came) size) says-text
         (λ c i o t. says-supply (law c i t) ws)
 
     draws-so : number ≡ 0 → of came ws .0 .drawn ≡ d
@@ -236,7 +240,7 @@ module _ (n size d : ℕ) {Input Text : Type 0} (input text : Bool) {P : List �
         let long = as-long l ws vs same (a .4) in
         rw (← alike l ws vs same (a .4), place l ws, le-leb d (length ws) (a .4), le-leb d (length vs) long)
 
-  followed : Follows n Input size Text d rule of
+  followed : Follows Count Input size Text d rule of
   unfolding call
   followed =
       record {
@@ -247,10 +251,11 @@ module _ (n size d : ℕ) {Input Text : Type 0} (input text : Bool) {P : List �
         past-draws = past;
       }
 
-pub follows : {n size d : ℕ} {Input Text : Type 0} {input text : Bool} {P : List ℕ → Type 0} {rule : Draw (List ℕ)}
-    → Says Input input → Says Text text → (Allowed n → Input → Text → Rule d P rule)
-    → Follows n Input size Text d rule (callOf n input size text rule)
-follows {n} {size} {d} {input = input} {text = text} {rule = rule} = followed n size d input text rule
+pub follows : {size d : ℕ} {Count Input Text : Type 0} {count input text : Bool} {P : List ℕ → Type 0}
+    {rule : Draw (List ℕ)}
+    → Says Count count → Says Input input → Says Text text → (Count → Input → Text → Rule d P rule)
+    → Follows Count Input size Text d rule (callOf count input size text rule)
+follows {size} {d} {count = count} {input = input} {text = text} {rule = rule} = followed size d count input text rule
 
 -- ---- the conditions leave one number
 pub only : {A : Type 0} {m i j : ℕ} {R : ℕ → Type 0} → (R i → R j → i ≡ j) → Asks A m R i → Asks A m R j → i ≡ j
@@ -266,9 +271,9 @@ pub exactly : {A B C D E : Type 0} {i j : ℕ} → Given A B C D E i → Given A
 exactly = only (only (only (only (only done-only))))
 
 -- ---- what a call makes, from what its rule makes where the call's tests are passed
-module _ {n size d k : ℕ} {Input Text : Type 0} {rule : Draw (List ℕ)} {f : OnShares} {P : List ℕ → Type 0} where
-  pub makes : Follows n Input size Text d rule f
-      → (Allowed n → Input → Text → (ws : List ℕ) → Words k ws → P (rule ws 0 .0)) → Makes k f P
+module _ {size d k : ℕ} {Count Input Text : Type 0} {rule : Draw (List ℕ)} {f : OnShares} {P : List ℕ → Type 0} where
+  pub makes : Follows Count Input size Text d rule f
+      → (Count → Input → Text → (ws : List ℕ) → Words k ws → P (rule ws 0 .0)) → Makes k f P
   makes follows law = record {
     made = λ came ws w h.
         let o = follows .outcome came ws in
@@ -276,7 +281,7 @@ module _ {n size d k : ℕ} {Input Text : Type 0} {rule : Draw (List ℕ)} {f : 
         subst (λ (t : List ℕ × ℕ). P (t .0)) (sym (o .accepted-is h)) (law (a .0) (a .1) (a .3) ws w);
   }
 
-  pub makes-as : {e : ℕ} → Follows n Input size Text d rule f → (Allowed n → Input → Text → Rule e P rule) → Makes k f P
+  pub makes-as : {e : ℕ} → Follows Count Input size Text d rule f → (Count → Input → Text → Rule e P rule) → Makes k f P
   makes-as follows law = makes follows (λ c i t ws w. law c i t .makes ws 0)
 
 -- ---- openings and records

@@ -69,7 +69,7 @@ two-set z i j s t h l =
     )
 
 -- ---- refresh
-pub refreshLast-rule : (n : ℕ) (x : List ℕ) → length x ≡ n → Rule (refreshDraws n) (Shares n (opened x)) (refreshLast x)
+pub refreshLast-rule : (n : ℕ) (x : List ℕ) → length x ≡ n → Rule (n - 1) (Shares n (opened x)) (refreshLast x)
 unfolding refreshLast
 refreshLast-rule zero [] h =
     said

@@ -14,11 +14,12 @@ use borrow.Author.Tests.{eqb-true, leb-true}
 use Rattle.rules.specs.declared.Answer.{Answer}
 use Rattle.rules.specs.declared.Chain.{Chain}
 use Rattle.rules.specs.Supply.{Draw, Rule, split}
-use Rattle.rules.specs.Numbers.{largest, longestKey, longestMessage, both, allowed, fit, Test, test, first}
+use Rattle.rules.specs.Numbers.{largest, longestKey, longestMessage, both, power, allowed, fit, Test, test, first}
 use Rattle.rules.specs.Shares.{refresh, expand, and, add}
 use Rattle.rules.specs.Convert.{toBool, toArith}
-use Rattle.rules.specs.Counts.{refreshDraws, andDraws, addDraws, toBoolDraws, toArithDraws, compressDraws}
-use Rattle.rules.specs.Counts.{keyDraws, hmacDraws, sha1}
+use Rattle.rules.specs.Short.{toArithShort}
+use Rattle.rules.specs.Counts.{refreshDraws, andDraws, addDraws, toBoolDraws, toArithDraws, shortDraws}
+use Rattle.rules.specs.Counts.{compressDraws, keyDraws, hmacDraws, sha1}
 use Rattle.rules.specs.Sha1.{compress, used, chainOf}
 use Rattle.rules.specs.Hmac.{splitKey, hmacTag}
 use Rattle.rules.specs.Calls.{oneTests, twoTests, openCall, query, compressCall}
@@ -26,6 +27,7 @@ use Rattle.rules.proofs.Openings.{opened-lt}
 use Rattle.rules.proofs.Pairs.{refresh-rule, and-rule}
 use Rattle.rules.proofs.Addition.{add-loop-rule, expand-rule, split-rule}
 use Rattle.rules.proofs.Conversion.{add-adds, refresh-refreshes, toBool-rule, toArith-rule}
+use Rattle.rules.proofs.Short.{toArithShort-rule}
 use Rattle.rules.proofs.Sizes.{sha1-size, compress-sized, hmacTag-sized, splitKey-sized}
 use Rattle.rules.proofs.Tags.{sha1-proper}
 use Rattle.rules.proofs.Loops.{chain-length, length-used}
@@ -154,7 +156,7 @@ module _ (n : ℕ) (came ws : List ℕ) (q : Answer) where
       needs (n - 1) q _ ws e (taken n count) (split-rule n value (within n count .0))
 
   module _ (x : List ℕ) where
-    module _ (h : first (oneTests n n x came) ≡ 0) where
+    module _ (h : first (oneTests (allowed n) n n x came) ≡ 0) where
       pub refresh-needs : query (test 1 (allowed n) ∷ []) (refreshDraws n) ≡ q → refresh x ws 0 .1 ≡ q .drawn
       refresh-needs e =
           let p = passed _ h in
@@ -182,7 +184,15 @@ module _ (n : ℕ) (came ws : List ℕ) (q : Answer) where
             needs (toArithDraws (addDraws 32) refreshDraws (length x)) q _ ws (rw size e) (taken n count)
             (toArith-rule 32 (addDraws 32) (add 32) added refreshDraws refresh refresh-refreshes (t .0) x (size ∙ t .1) secret)
 
-    pub expand-needs : first (oneTests n (2 * n) x came) ≡ 0 → query (test 1 (allowed n) ∷ []) n ≡ q → expand x ws 0 .1 ≡ q .drawn
+    pub toArithShort-needs : first (oneTests (power n) n n x came) ≡ 0 → query (test 1 (power n) ∷ []) (shortDraws n) ≡ q
+        → toArithShort 32 x ws 0 .1 ≡ q .drawn
+    toArithShort-needs h e =
+        let p = passed _ h in
+        let size = eqb-true (length x) n (holds _ _ (p .1 .0)) in
+        needs (shortDraws (length x)) q _ ws (rw size e) (taken n (holds _ _ (p .0))) (toArithShort-rule 32 x)
+
+    pub expand-needs : first (oneTests (allowed n) n (2 * n) x came) ≡ 0 → query (test 1 (allowed n) ∷ []) n ≡ q
+        → expand x ws 0 .1 ≡ q .drawn
     expand-needs h e =
         let p = passed _ h in
         needs n q _ ws e (taken n (holds _ _ (p .0))) (expand-rule n x (eqb-true (length x) n (holds _ _ (p .1 .0))))

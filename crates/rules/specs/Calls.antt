@@ -1,5 +1,6 @@
 -- The outcome of each public call, at a width k: its answer, and every lent buffer afterwards. `came` is what the output slice held.
 use Prim.Native.Nat.{ℕ, _+_, _-_, _*_}
+use mathlib.Core.Bool.{Bool}
 use mathlib.Core.List.{List, [], _∷_, _++_}
 use lib.Bits.{bitXor}
 use lib.Dec.{eqb, leb}
@@ -10,16 +11,17 @@ use Rattle.rules.specs.declared.Opened.{Opened}
 use Rattle.rules.specs.declared.Chain.{Chain}
 use Rattle.rules.specs.declared.Compressed.{Compressed}
 use Rattle.rules.specs.Supply.{Draw, Count, Supply, Sharing, split, opened, openedSum}
-use Rattle.rules.specs.Numbers.{longestKey, longestMessage, both, allowed, Test, test, first, settled, told}
+use Rattle.rules.specs.Numbers.{longestKey, longestMessage, both, power, allowed, Test, test, first, settled, told}
 use Rattle.rules.specs.Goubin.{b2aRecord, a2bRecord}
 use Rattle.rules.specs.Shares.{refresh, expand, and, add}
 use Rattle.rules.specs.Convert.{toBool, toArith}
+use Rattle.rules.specs.Short.{toArithShort}
 use Rattle.rules.specs.Sha1.{compress, used, chainOf}
 use Rattle.rules.specs.Hash.{Bytes, digestBytes}
 use Rattle.rules.specs.Standard.{SHA1}
 use Rattle.rules.specs.Hmac.{splitKey, hmacTag}
-use Rattle.rules.specs.Counts.{refreshDraws, andDraws, addDraws, toBoolDraws, toArithDraws, compressDraws}
-use Rattle.rules.specs.Counts.{keyDraws, hmacDraws, sha1}
+use Rattle.rules.specs.Counts.{refreshDraws, andDraws, addDraws, toBoolDraws, toArithDraws, shortDraws}
+use Rattle.rules.specs.Counts.{compressDraws, keyDraws, hmacDraws, sha1}
 
 -- ---- two shares: working forms take plain numbers and refuse nothing
 -- x − r, from x′ and r with x = x′ ⊕ r
@@ -52,12 +54,12 @@ call tests rule came ws =
 abbrev pub splitCall : Count → Word → Sharing → Supply → Answer × Sharing
 splitCall n value came = call (test 1 (allowed n) ∷ test 3 (eqb (length came) n) ∷ []) (split n value) came
 
--- one input of n shares, m shares out
-abbrev pub oneTests : Count → Count → Sharing → Sharing → List Test
-oneTests n m x came = test 1 (allowed n) ∷ test 2 (eqb (length x) n) ∷ test 3 (eqb (length came) m) ∷ []
+-- one input of n shares, m shares out; `counted` is the test of n
+abbrev pub oneTests : Bool → Count → Count → Sharing → Sharing → List Test
+oneTests counted n m x came = test 1 counted ∷ test 2 (eqb (length x) n) ∷ test 3 (eqb (length came) m) ∷ []
 
-abbrev pub oneCall : Count → Count → Sharing → Draw Sharing → Sharing → Supply → Answer × Sharing
-oneCall n m x rule came = call (oneTests n m x came) rule came
+abbrev pub oneCall : Bool → Count → Count → Sharing → Draw Sharing → Sharing → Supply → Answer × Sharing
+oneCall counted n m x rule came = call (oneTests counted n m x came) rule came
 
 -- two inputs of n shares, n shares out
 abbrev pub twoTests : Count → Sharing → Sharing → Sharing → List Test
@@ -68,10 +70,10 @@ abbrev pub twoCall : Count → Sharing → Sharing → Draw Sharing → Sharing 
 twoCall n x y rule came = call (twoTests n x y came) rule came
 
 abbrev pub refreshCall : Count → Sharing → Sharing → Supply → Answer × Sharing
-refreshCall n x = oneCall n n x (refresh x)
+refreshCall n x = oneCall (allowed n) n n x (refresh x)
 
 abbrev pub expandCall : Count → Sharing → Sharing → Supply → Answer × Sharing
-expandCall n x = oneCall n (2 * n) x (expand x)
+expandCall n x = oneCall (allowed n) n (2 * n) x (expand x)
 
 abbrev pub andCall : Count → Sharing → Sharing → Sharing → Supply → Answer × Sharing
 andCall n x y = twoCall n x y (and x y)
@@ -80,10 +82,13 @@ abbrev pub addCall : Width → Count → Sharing → Sharing → Sharing → Sup
 addCall k n x y = twoCall n x y (add k x y)
 
 abbrev pub a2bCall : Width → Count → Sharing → Sharing → Supply → Answer × Sharing
-a2bCall k n a = oneCall n n a (toBool (add k) a)
+a2bCall k n a = oneCall (allowed n) n n a (toBool (add k) a)
 
 abbrev pub b2aCall : Width → Count → Sharing → Sharing → Supply → Answer × Sharing
-b2aCall k n x = oneCall n n x (toArith k (add k) refresh x)
+b2aCall k n x = oneCall (allowed n) n n x (toArith k (add k) refresh x)
+
+abbrev pub b2aShortCall : Width → Count → Sharing → Sharing → Supply → Answer × Sharing
+b2aShortCall k n x = oneCall (power n) n n x (toArithShort k x)
 
 -- ---- SHA-1 and HMAC
 abbrev pub splitKeyCall : Width → Count → Bytes → Sharing → Supply → Answer × Sharing
@@ -144,6 +149,9 @@ a2bWords k n = query (test 1 (allowed n) ∷ []) (toBoolDraws (addDraws k) n)
 
 abbrev pub b2aWords : Width → Count → Answer
 b2aWords k n = query (test 1 (allowed n) ∷ []) (toArithDraws (addDraws k) refreshDraws n)
+
+abbrev pub b2aShortWords : Count → Answer
+b2aShortWords n = query (test 1 (power n) ∷ []) (shortDraws n)
 
 abbrev pub splitKeyWords : Width → Count → ℕ → Answer
 splitKeyWords k n length = query (test 1 (allowed n) ∷ test 4 (leb length longestKey) ∷ []) (keyDraws (sha1 k) n length)

@@ -36,6 +36,12 @@ toBoolDraws d n = toBoolDrawsIn d n n
 abbrev pub toArithDraws : (Count → ℕ) → (Count → ℕ) → Count → ℕ
 toArithDraws d e n = n - 1 + toBoolDraws d n + d n + e n
 
+-- V(1) = 0 and V(n) = 3n−2 + 2V(n−1)
+unfoldable pub shortDraws : Count → ℕ
+shortDraws zero = 0
+shortDraws (suc zero) = 0
+shortDraws (suc (suc m)) = 3 * suc (suc m) - 2 + 2 * shortDraws (suc m)
+
 -- ---- section 6: in ANDs, of the function of a quarter, of m rounds from round t on, of a compression
 unfoldable pub quarterAnds : ℕ → ℕ
 quarterAnds zero = 1

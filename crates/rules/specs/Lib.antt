@@ -4,6 +4,7 @@ pub mod Goubin
 pub mod Independent
 pub mod Shares
 pub mod Convert
+pub mod Short
 pub mod Hash
 pub mod Standard
 pub mod Sha1

@@ -27,9 +27,13 @@ abbrev pub both : Bool → Bool → Bool
 both true b = b
 both false b = false
 
--- the share counts that calls take: 1, 2, 4 and 8
-unfoldable pub allowed : ℕ → Bool
-allowed n = either (eqb n 1) (either (eqb n 2) (either (eqb n 4) (eqb n largest)))
+-- the share counts of the short conversion: 1, 2, 4 and 8
+unfoldable pub power : ℕ → Bool
+power n = either (eqb n 1) (either (eqb n 2) (either (eqb n 4) (eqb n 8)))
+
+-- and of all other calls
+abbrev pub allowed : ℕ → Bool
+allowed n = power n
 
 -- a state that feed and finish take, else number 6: not after finish, of an allowed share count, and not past the limit
 unfoldable pub fit : ℕ → ℕ → ℕ → Bool

@@ -9,9 +9,12 @@ use Rattle.rules.specs.declared.State.{State}
 use Rattle.rules.specs.Supply.{Draw, Words}
 use Rattle.rules.specs.Numbers.{longestMessage}
 
--- the share counts that calls take
+-- the share counts of the short conversion, and of all other calls
+abbrev pub Power : ℕ → Type 0
+Power n = (n ≡ 1) ⊎ (n ≡ 2) ⊎ (n ≡ 4) ⊎ (n ≡ 8)
+
 abbrev pub Allowed : ℕ → Type 0
-Allowed n = (n ≡ 1) ⊎ (n ≡ 2) ⊎ (n ≡ 4) ⊎ (n ≡ 8)
+Allowed n = Power n
 
 -- a state that feed and finish take; and the sizes that a state has by its type
 abbrev pub Fit : State → Type 0
@@ -48,11 +51,12 @@ pub record Settles {A : Type 0} (Number : ℕ → Type 0) (number : ℕ) (made c
 abbrev pub OnShares : Type 0
 OnShares = List ℕ → List ℕ → Answer × List ℕ
 
--- It takes n shares, an input, an output slice of `size` entries and a text, and draws d words, by its rule.
-pub record Follows (n : ℕ) (Input : Type 0) (size : ℕ) (Text : Type 0) (d : ℕ) (rule : Draw (List ℕ)) (f : OnShares) : Type 0 where
+-- It takes a share count, an input, an output slice of `size` entries and a text, and draws d words, by its rule.
+pub record Follows (Count Input : Type 0) (size : ℕ) (Text : Type 0) (d : ℕ) (rule : Draw (List ℕ)) (f : OnShares)
+    : Type 0 where
   -- refused, the output slice is as it came and the count is 0; accepted, both are the rule's, from place 0
   pub outcome : (came ws : List ℕ) → (let o = f came ws in
-      Settles (Given (Allowed n) Input (length came ≡ size) Text (d ≤ length ws)) (o .0 .number)
+      Settles (Given Count Input (length came ≡ size) Text (d ≤ length ws)) (o .0 .number)
       (rule ws 0) (came, 0) (o .1, o .0 .drawn))
   pub count : (came ws : List ℕ) → f came ws .0 .number ≡ 0 → f came ws .0 .drawn ≡ d
   -- any supply that begins with the same d words gives the same outcome

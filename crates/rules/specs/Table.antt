@@ -9,6 +9,7 @@ use Rattle.rules.specs.Goubin.{psi, b2aRecord, a2bStart, a2bRound, a2bRo
 use Rattle.rules.specs.Supply.{next, opened}
 use Rattle.rules.specs.Shares.{each, pass, along, order, column, refreshLast, refresh, expand, and, carries, add}
 use Rattle.rules.specs.Convert.{widen, halved, toBoolIn, toBool, toArith}
+use Rattle.rules.specs.Short.{psis, joined, summed, shorter, shortOf, toArithShort}
 use Rattle.rules.specs.Counts.{andDraws, quarterAnds, roundsAnds, compressAnds, hmacDraws, sha1}
 
 pub record Row : Type 0 where
@@ -48,10 +49,12 @@ table =
     (0 ∷ 68 ∷ 462 ∷ 2342 ∷ []) ∷
     -- P11: HMAC at 2 shares, of 55 and of 56 bytes; that HMAC draws so is hmacShares-sized of proofs/Sizes.antt
     row (map (hmacDraws (sha1 32) 2) (55 ∷ 56 ∷ [])) (41760 ∷ 52200 ∷ []) ∷
+    -- request (iv): V(1), V(2), V(3), V(4) and V(8), as the short conversion itself draws
+    row (map (λ n. toArithShort 32 (replicate n 0) [] 0 .1) (1 ∷ 2 ∷ 3 ∷ 4 ∷ 8 ∷ [])) (0 ∷ 4 ∷ 15 ∷ 40 ∷ 868 ∷ []) ∷
     []
 
 pub reference : map (λ (r : Row). r .given) table ≡ map (λ (r : Row). r .stated) table
 unfolding table psi b2aRecord a2bStart a2bRound a2bRounds a2bRecord plus minus shift next opened
     each pass along order column refreshLast refresh expand and carries add
-    widen halved toBoolIn toBool toArith andDraws quarterAnds roundsAnds compressAnds
+    widen halved toBoolIn toBool toArith psis joined summed shorter shortOf toArithShort andDraws quarterAnds roundsAnds compressAnds
 reference = refl

@@ -7,7 +7,7 @@ ghost use lib.ListN.{length};
 ghost use lib.Seq.{sets};
 ghost use Rattle.rules.specs.Supply.{opened, openedSum, next, split};
 ghost use Rattle.rules.specs.Numbers.{largest};
-ghost use Rattle.rules.specs.Shares.{each, mix, refresh, expand};
+ghost use Rattle.rules.specs.Shares.{each, mix, refreshLast, refresh, expand};
 ghost use Rattle.rules.specs.Counts.{refreshDraws};
 ghost use Rattle.width.specs.Width.{bits};
 use supply::draw_at;
@@ -86,11 +86,11 @@ fn mix_at(i: usize, j: usize, word: Word, z: &mut [Word])
     z[j] = z[j] ^ word;
 }
 
-// Refresh in place, from the word at `at` on; the place after.
-pub fn refresh_at(y: &mut [Word], words: &[Word], at: usize) -> usize
-    requires { ⌜ (0 < length (now y)) × (at + refreshDraws (length (now y)) ≤ length (now words)) ⌝ }
-    ensures { λ r. ⌜ (refresh (now (y .entry)) (now (words .entry)) at ≡ (now (y .exit), r))
-        × (r ≡ at + refreshDraws (length (now (y .entry)))) ⌝ }
+// Refresh by pairs with the last share, in place, from the word at `at` on; the place after.
+pub fn refresh_last(y: &mut [Word], words: &[Word], at: usize) -> usize
+    requires { ⌜ (0 < length (now y)) × (at + (length (now y) - 1) ≤ length (now words)) ⌝ }
+    ensures { λ r. ⌜ (refreshLast (now (y .entry)) (now (words .entry)) at ≡ (now (y .exit), r))
+        × (r ≡ at + (length (now (y .entry)) - 1)) ⌝ }
 {
     let last = y.len() - 1;
     let mut p = at;
@@ -102,6 +102,15 @@ pub fn refresh_at(y: &mut [Word], words: &[Word], at: usize) -> usize
         i += 1;
     }
     p
+}
+
+// Refresh in place, from the word at `at` on; the place after.
+pub fn refresh_at(y: &mut [Word], words: &[Word], at: usize) -> usize
+    requires { ⌜ (0 < length (now y)) × (at + refreshDraws (length (now y)) ≤ length (now words)) ⌝ }
+    ensures { λ r. ⌜ (refresh (now (y .entry)) (now (words .entry)) at ≡ (now (y .exit), r))
+        × (r ≡ at + refreshDraws (length (now (y .entry)))) ⌝ }
+{
+    refresh_last(y, words, at)
 }
 
 // Expand, n to 2n, from the word at `at` on; the place after.

@@ -152,7 +152,7 @@ fn fold_last(list: &[u32]) -> Vec<u32> {
 fn psi_entries(shares: &[u32]) -> Vec<u32> {
     let (share_1, later) = (shares[0], &shares[1..]);
     let mut b: Vec<u32> = later.iter().map(|share| psi(share_1, *share)).collect();
-    if later.len().is_multiple_of(2) {
+    if later.len() & 1 == 0 {
         b[0] ^= share_1;
     }
     b

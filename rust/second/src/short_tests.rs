@@ -48,7 +48,7 @@ fn by_place(x: &[u32], words: &[u32]) -> Vec<u32> {
     shares.push(xor_of(&words[..n]));
     let psi = |i: usize| (shares[0] ^ shares[i]).wrapping_sub(shares[i]);
     let mut b: Vec<u32> = (1..=n).map(psi).collect();
-    if n.is_multiple_of(2) {
+    if n & 1 == 0 {
         b[0] ^= shares[0];
     }
     let first = refreshed_and_folded(&shares[1..], &words[n..2 * n - 1]);

@@ -1,0 +1,21 @@
+-- What the inner functions of the short conversion make.
+-- Nobody has to believe these: the exported contract speaks of the rules alone.
+use Prim.Native.Nat.{ℕ}
+use mathlib.Core.List.{List}
+use lib.ListN.{drop}
+use Rattle.rules.specs.Supply.{Draw}
+use Rattle.rules.specs.Shares.{refreshLast}
+use Rattle.rules.specs.Short.{psis, joined}
+
+-- a list refreshed and joined
+unfoldable pub ready : List ℕ → Draw (List ℕ)
+ready l ws at =
+    let r = refreshLast l ws at in
+    (joined (r .0), r .1)
+
+-- of the n + 1 shares of a step: the later ones and b
+unfoldable pub lists : ℕ → List ℕ → Draw (List ℕ × List ℕ)
+lists k a ws at =
+    let c = ready (drop 1 a) ws at in
+    let b = ready (psis k a) ws (c .1) in
+    ((c .0, b .0), b .1)
