@@ -46,7 +46,7 @@ use Rattle.rules.proofs.Openings.{opened-lt}
 use Rattle.rules.proofs.Pairs.{refresh-rule}
 use Rattle.rules.proofs.Addition.{add-rule, split-rule}
 use Rattle.rules.proofs.Conversion.{draws-one, draws-more}
-use Rattle.rules.proofs.Short.{short-more, short-closed, toArithShort-rule, toArithShort-opens}
+use Rattle.rules.proofs.Short.{short-none, short-more, short-closed, toArithShort-rule, toArithShort-opens}
 use Rattle.rules.proofs.Ends.{b2a-length, a2b-length, b2a-ends, a2b-ends}
 use Rattle.rules.proofs.Demand3.{b2a-independent, a2b-independent}
 use Rattle.rules.proofs.Calls.{one-outcome}
@@ -80,8 +80,7 @@ D-long = long-count
 
 -- V(n), the words of the short conversion: V(1) = 0 and V(n) = 3n − 2 + 2V(n−1), which is 7·2^(n−1) − 3n − 4.
 pub V-one : shortDraws 1 ≡ 0
-unfolding shortDraws
-V-one = refl
+V-one = short-none 1 (lit≤ tt)
 
 pub V-more : (n : ℕ) → 1 < n → shortDraws n ≡ 3 * n - 2 + 2 * shortDraws (n - 1)
 V-more = short-more

@@ -10,7 +10,7 @@ use lib.Seq.{take-all, length-take-le}
 use Rattle.width.specs.Width.{bits}
 use Rattle.words.proofs.Stores.{set-last}
 use Rattle.rules.specs.Supply.{next, opened}
-use Rattle.rules.specs.Numbers.{largest, allowed}
+use Rattle.rules.specs.Numbers.{largest, power, allowed}
 use Rattle.rules.specs.Shares.{expand}
 use Rattle.rules.specs.Convert.{Adder, Refresh, widen, halved, toBool, toArith}
 use Rattle.rules.specs.Counts.{addDraws, toBoolDraws}
@@ -22,7 +22,7 @@ use Rattle.convert.specs.Steps.{Halves, widened, less}
 
 -- ---- a share count above one has its half
 pub halved-count : (n : ℕ) → allowed n ≡ true → 1 < n → Halves n
-unfolding allowed
+unfolding power
 halved-count n h l = go (counted n h) l
   where
     made : (n : ℕ) → 1 < n → allowed (n / 2) ≡ true → n ≡ n / 2 * 2 → n ≤ largest → Halves n

@@ -7,7 +7,7 @@ use native.Mathlib.Nat.{mul-zero, mul-le-mul}
 use native.Mathlib.Omega.{arith}
 use lib.Dec.{eqb}
 use Rattle.rules.specs.declared.Answer.{Answer}
-use Rattle.rules.specs.Numbers.{longestKey, choose, either, allowed, Test, test, first, settled, told}
+use Rattle.rules.specs.Numbers.{longestKey, choose, either, power, allowed, Test, test, first, settled, told}
 use Rattle.rules.specs.Counts.{compressDraws, keyDraws, sha1}
 use Rattle.rules.specs.Calls.{query}
 use Rattle.rules.proofs.Calls.{settled-refused, tells}
@@ -16,13 +16,10 @@ use Rattle.rules.proofs.Keys.{short-draws, long-draws}
 use Rattle.rules.proofs.Allowed.{Taken, one, two, four, eight, counted, few}
 use Rattle.counts.specs.Queries.{byCount, byText}
 
-told-count : (n d : ℕ) → told (test 1 (allowed n) ∷ []) d ≡ choose (allowed n) d 0
+told-count : (counted : Bool) (d : ℕ) → told (test 1 counted ∷ []) d ≡ choose counted d 0
 unfolding first test
-told-count n d = go (allowed n)
-  where
-    go : (b : Bool) → told (test 1 b ∷ []) d ≡ choose b d 0
-    go true = refl
-    go false = refl
+told-count true d = refl
+told-count false d = refl
 
 pub query-count : (n d : ℕ)
     → query (test 1 (allowed n) ∷ []) d ≡ record { number = first (test 1 (allowed n) ∷ []); drawn = choose (allowed n) d 0 }
@@ -73,8 +70,8 @@ pub query-done : (tests : List Test) (d number drawn : ℕ) → first tests ≡ 
 query-done tests d number drawn e h f = rw (e, h, f)
 
 -- a share count that is not taken is none of 2, 4 and 8
-others : (n : ℕ) → allowed n ≡ false → (eqb n 2 ≡ false) × (eqb n 4 ≡ false) × (eqb n 8 ≡ false)
-unfolding allowed
+others : (n : ℕ) → power n ≡ false → (eqb n 2 ≡ false) × (eqb n 4 ≡ false) × (eqb n 8 ≡ false)
+unfolding power
 others n h = go (eqb n 1) (eqb n 2) (eqb n 4) (eqb n 8) h
   where
     go : (a b c d : Bool) → either a (either b (either c d)) ≡ false → (b ≡ false) × (c ≡ false) × (d ≡ false)
@@ -86,8 +83,8 @@ others n h = go (eqb n 1) (eqb n 2) (eqb n 4) (eqb n 8) h
 
 -- a number for each share count, by what the rule draws at each
 module _ (d : ℕ → ℕ) (n : ℕ) where
-  pub told-below : (b : ℕ) → d 1 ≤ b → d 2 ≤ b → d 4 ≤ b → d 8 ≤ b → told (test 1 (allowed n) ∷ []) (d n) ≤ b
-  told-below b h₁ h₂ h₄ h₈ = rw told-count (go (allowed n) refl)
+  pub told-below : (b : ℕ) → d 1 ≤ b → d 2 ≤ b → d 4 ≤ b → d 8 ≤ b → told (test 1 (power n) ∷ []) (d n) ≤ b
+  told-below b h₁ h₂ h₄ h₈ = rw told-count (go (power n) refl)
     where
       at : {n : ℕ} → Taken n → d n ≤ b
       at one = h₁
@@ -95,14 +92,14 @@ module _ (d : ℕ → ℕ) (n : ℕ) where
       at four = h₄
       at eight = h₈
 
-      go : (t : Bool) → allowed n ≡ t → choose t (d n) 0 ≤ b
+      go : (t : Bool) → power n ≡ t → choose t (d n) 0 ≤ b
       go true e = at (counted n e)
       go false e = omega arith
 
   pub by-count : (two′ four′ eight′ : ℕ) → d 1 ≡ 0 → d 2 ≡ two′ → d 4 ≡ four′ → d 8 ≡ eight′
-      → query (test 1 (allowed n) ∷ []) (d n)
-      ≡ record { number = first (test 1 (allowed n) ∷ []); drawn = byCount n two′ four′ eight′ }
-  by-count two′ four′ eight′ h₁ h₂ h₄ h₈ = rw (told-count, go (allowed n) refl)
+      → query (test 1 (power n) ∷ []) (d n)
+      ≡ record { number = first (test 1 (power n) ∷ []); drawn = byCount n two′ four′ eight′ }
+  by-count two′ four′ eight′ h₁ h₂ h₄ h₈ = rw (told-count, go (power n) refl)
     where
       at : {n : ℕ} → Taken n → d n ≡ byCount n two′ four′ eight′
       at one = h₁
@@ -110,7 +107,7 @@ module _ (d : ℕ → ℕ) (n : ℕ) where
       at four = h₄
       at eight = h₈
 
-      go : (t : Bool) → allowed n ≡ t → choose t (d n) 0 ≡ byCount n two′ four′ eight′
+      go : (t : Bool) → power n ≡ t → choose t (d n) 0 ≡ byCount n two′ four′ eight′
       go true e = at (counted n e)
       go false e = let o = others n e in rw (o .0, o .1, o .2)
 

@@ -1,15 +1,13 @@
 -- Words in shares, from the parts that the code works out one after the other.
 use Prim.Native.Nat.{ℕ, zero, suc, _+_, _-_, _*_, _≤_, _<_}
 use mathlib.Core.Path.{_≡_, refl, sym, ap, _∙_}
-use mathlib.Core.List.{List, [], map}
+use mathlib.Core.List.{List, []}
 use native.Mathlib.Nat.{suc-mul, mul-le-mul-right}
 use native.Mathlib.Numerals.{add-one}
 use native.Mathlib.Omega.{arith}
-use lib.ListN.{length, getD, set, take, drop, replicate, length-drop, length-map, replicate-append-replicate}
+use lib.ListN.{length, set, take, drop, replicate, length-drop, replicate-append-replicate}
 use lib.Seq.{length-take-le, take-all, take-suc-set}
-use Rattle.words.proofs.Stores.{filled-next, filled-end}
 use Rattle.rules.specs.Sha1.{word, public}
-use Rattle.rules.proofs.Bytes.{map-at}
 use Rattle.masked_words.specs.Words.{firsts}
 
 -- ---- word: word w, as a part of a slice
@@ -50,13 +48,3 @@ pub public-made : (n m v : ℕ) (z : List ℕ) → 0 < n → m ≡ n → z ≡ r
 unfolding public
 public-made zero m v z h e f = absurd (omega arith)
 public-made (suc n) m v z h e f = let q : suc n - 1 ≡ n = omega arith in rw (f, e, q)
-
--- ---- rotate: f of each entry up to place i, and at the end of all
-module _ (f : ℕ → ℕ) (x z : List ℕ) (i : ℕ) (same : length z ≡ length x) where
-  pub mapped-next : (a : ℕ) → i < length x → a ≡ f (getD x i 0) → take i z ≡ take i (map f x)
-      → take (i + 1) (set z i a) ≡ take (i + 1) (map f x)
-  mapped-next a h e p =
-      filled-next z (map f x) i a (omega arith) (same ∙ sym (length-map x f)) (e ∙ sym (map-at f x i h)) p
-
-  pub mapped-end : length x ≤ i → take i z ≡ take i (map f x) → z ≡ map f x
-  mapped-end h p = filled-end z (map f x) i (omega (arith, length-map x f)) (same ∙ sym (length-map x f)) p

@@ -7,10 +7,10 @@ pub mod Pairs
 pub mod Addition
 pub mod Conversion
 pub mod Allowed
-pub mod Loops
 pub mod Calls
 pub mod Functions
 pub mod Bytes
+pub mod Loops
 pub mod Short
 pub mod Goods
 pub mod MaskedSha1

@@ -8,7 +8,7 @@ use native.Mathlib.Numerals.{add-one}
 use native.Mathlib.Omega.{arith}
 use lib.Bits.{bitXor, bitAnd}
 use lib.ListN.{length, getD, set, take, drop, replicate, length-map, length-set, drop-of-length-le}
-use lib.Seq.{drop-cons, take-all, length-take-le}
+use lib.Seq.{drop-cons, take-all, length-take-le, take-suc, append-snoc, getD-at, set-at}
 use Rattle.words.proofs.Stores.{take-sets, filled-next, filled-end, set-last}
 use Rattle.words.specs.Word.{minus}
 use Rattle.rules.specs.Supply.{next, opened, split}
@@ -17,6 +17,7 @@ use Rattle.rules.specs.Shares.{Step, each, pass, along, order, column, c
 use Rattle.rules.specs.Sha1.{used}
 use Rattle.rules.specs.Counts.{andDraws, addDraws}
 use Rattle.rules.proofs.Openings.{length-each, each-at}
+use Rattle.rules.proofs.Bytes.{map-at}
 use Rattle.rules.proofs.Rule.{next-rule}
 use Rattle.rules.proofs.Conversion.{negatives, length-negatives}
 
@@ -206,6 +207,42 @@ module _ (f : ℕ → ℕ → ℕ) (x y u z : List ℕ) (i n : ℕ)
 
   pub each-three-end : n ≤ i → take i z ≡ take i (each f (each f x y) u) → z ≡ each f (each f x y) u
   each-three-end h p = each-end f n (each f x y) u z i size-two third room h p
+
+-- y becomes f of x and itself: z is done up to place i, and j is the place after
+module _ (f : ℕ → ℕ → ℕ) (x y z : List ℕ) (i : ℕ) (size : length y ≡ length x)
+    (so-far : z ≡ take i (each f x y) ++ drop i y) where
+  pub into-next : (j a : ℕ) → j ≡ i + 1 → i < length x → a ≡ f (getD x i 0) (getD z i 0)
+      → set z i a ≡ take j (each f x y) ++ drop j y
+  into-next j a p h e =
+      let all = each f x y in
+      let front = length-take-le i all (omega (arith, length-each f x y size)) in
+      let rest = drop (suc i) y in
+      let whole : z ≡ take i all ++ getD y i 0 ∷ rest =
+      so-far ∙ ap (λ (l : List ℕ). take i all ++ l) (drop-cons y i 0 (omega arith)) in
+      let here : getD z i 0 ≡ getD y i 0 =
+      ap (λ (l : List ℕ). getD l i 0) whole ∙ getD-at (take i all) (getD y i 0) rest 0 i front in
+      let made : a ≡ getD all i 0 = e ∙ ap (f (getD x i 0)) here ∙ sym (each-at f x y size i h) in
+      ap (λ (l : List ℕ). set l i a) whole
+      ∙ set-at (take i all) (getD y i 0) rest a i front
+      ∙ rw (p, add-one i, take-suc all i 0 (omega (arith, length-each f x y size)), made)
+      (sym (append-snoc (take i all) (getD all i 0) rest))
+
+  pub into-end : length x ≤ i → z ≡ each f x y
+  into-end h =
+      let all = each f x y in
+      so-far
+      ∙ rw (take-all i all (omega (arith, length-each f x y size)), drop-of-length-le y {i = i} (omega arith))
+      (append-nil all)
+
+-- ---- f of each entry up to place i, and at the end of all; j is the place after
+module _ (f : ℕ → ℕ) (x z : List ℕ) (i : ℕ) (same : length z ≡ length x) where
+  pub mapped-next : (j a : ℕ) → j ≡ i + 1 → i < length x → a ≡ f (getD x i 0) → take i z ≡ take i (map f x)
+      → take j (set z i a) ≡ take j (map f x)
+  mapped-next j a n h e p =
+      rw n (filled-next z (map f x) i a (omega arith) (same ∙ sym (length-map x f)) (e ∙ sym (map-at f x i h)) p)
+
+  pub mapped-end : length x ≤ i → take i z ≡ take i (map f x) → z ≡ map f x
+  mapped-end h p = filled-end z (map f x) i (omega (arith, length-map x f)) (same ∙ sym (length-map x f)) p
 
 -- ---- the next words, filled from the front
 next-at : (ws : List ℕ) (n at i : ℕ) → i < n → getD (next n ws at .0) i 0 ≡ getD ws (at + i) 0

@@ -74,6 +74,19 @@ short-rule k (suc (suc m)) x h =
     give (λ z. length z ≡ suc (suc m)) (summed k p q) (length-summed k m p q ip iq)))))))
     (omega arith)
 
+-- one share stays, and more go by the rule for one less
+pub shortOf-one : (k n : ℕ) (x ws : List ℕ) (at : ℕ) → n ≤ 1 → shortOf k n x ws at ≡ (x, at)
+unfolding shortOf
+shortOf-one k zero x ws at h = refl
+shortOf-one k (suc zero) x ws at h = refl
+shortOf-one k (suc (suc m)) x ws at h = absurd (omega arith)
+
+pub shortOf-more : (k n : ℕ) (x ws : List ℕ) (at : ℕ) → 1 < n → shortOf k n x ws at ≡ shorter k (shortOf k (n - 1)) x ws at
+unfolding shortOf
+shortOf-more k zero x ws at h = absurd (omega arith)
+shortOf-more k (suc zero) x ws at h = absurd (omega arith)
+shortOf-more k (suc (suc m)) x ws at h = let e : suc (suc m) - 1 ≡ suc m = omega arith in rw e
+
 -- ---- every entry stays a word of k bits
 module _ (k : ℕ) where
   words-set : (z : List ℕ) (i a : ℕ) → Words k z → a < 2 ^ k → Words k (set z i a)
@@ -274,7 +287,13 @@ module _ (k : ℕ) (x : List ℕ) where
   unfolding toArithShort
   toArithShort-opens ws at hw = short-adds k ws hw (length x) x at refl
 
--- ---- V(n) from V(n−1), and in closed form
+-- ---- V(1), V(n) from V(n−1), and in closed form
+pub short-none : (n : ℕ) → n ≤ 1 → shortDraws n ≡ 0
+unfolding shortDraws
+short-none zero h = refl
+short-none (suc zero) h = refl
+short-none (suc (suc m)) h = absurd (omega arith)
+
 pub short-more : (n : ℕ) → 1 < n → shortDraws n ≡ 3 * n - 2 + 2 * shortDraws (n - 1)
 unfolding shortDraws
 short-more zero h = absurd (omega arith)

@@ -1,7 +1,7 @@
 -- What the inner functions of the short conversion make.
 -- Nobody has to believe these: the exported contract speaks of the rules alone.
 use Prim.Native.Nat.{ℕ}
-use mathlib.Core.List.{List}
+use mathlib.Core.List.{List, [], _∷_, _++_}
 use lib.ListN.{drop}
 use Rattle.rules.specs.Supply.{Draw}
 use Rattle.rules.specs.Shares.{refreshLast}
@@ -19,3 +19,9 @@ lists k a ws at =
     let c = ready (drop 1 a) ws at in
     let b = ready (psis k a) ws (c .1) in
     ((c .0, b .0), b .1)
+
+-- of its shares
+unfoldable pub twoLists : ℕ → List ℕ → Draw (List ℕ × List ℕ)
+twoLists k x ws at =
+    let a = refreshLast (x ++ (0 ∷ [])) ws at in
+    lists k (a .0) ws (a .1)

@@ -11,7 +11,7 @@ ghost use Rattle.rules.specs.Shares.{each, refreshLast};
 ghost use Rattle.rules.specs.Short.{psis, joined, summed, shortOf, toArithShort};
 ghost use Rattle.rules.specs.Counts.{shortDraws};
 ghost use Rattle.width.specs.Width.{bits};
-ghost use Rattle.short.specs.Steps.{ready, lists};
+ghost use Rattle.short.specs.Steps.{ready, lists, twoLists};
 use rules::LARGEST;
 use shares::copy;
 use shares::refresh_last;
@@ -101,6 +101,18 @@ fn both_lists(a: &mut [Word], b: &mut [Word], words: &[Word], at: usize) -> usiz
     refresh_joined(b, words, p)
 }
 
+// Both lists of the shares z: the later shares from place 1 of a on, and b in the place of z.
+fn two_lists(z: &mut [Word], a: &mut [Word], words: &[Word], at: usize) -> usize
+    requires { ⌜ (length (now a) ≡ length (now z) + 1) × (1 < length (now z))
+        × (at + (3 * length (now z) - 2) ≤ length (now words)) ⌝ }
+    ensures { λ r. ⌜ (let m = length (now (z .entry)) - 1 in
+        (twoLists bits (now (z .entry)) (now (words .entry)) at ≡ ((take m (drop 1 (now (a .exit))), take m (now (z .exit))), r))
+        × (r ≡ at + (3 * length (now (z .entry)) - 2))) ⌝ }
+{
+    let p = spread(z, a, words, at);
+    both_lists(a, z, words, p)
+}
+
 // ---- the sum of both, converted
 
 // y becomes x + y, by places.
@@ -139,14 +151,13 @@ fn convert(n: usize, z: &mut [Word], words: &[Word], at: usize) -> usize
     }
     let mut room: [Word; ROOM] = [0; ROOM];
     let a = &mut room[0..n + 1];
-    let p = spread(z, a, words, at);
-    let q = both_lists(a, z, words, p);
+    let p = two_lists(z, a, words, at);
     let first = &mut a[1..n];
     let second = &mut z[0..n - 1];
-    let r = convert(n - 1, first, words, q);
-    let s = convert(n - 1, second, words, r);
+    let q = convert(n - 1, first, words, p);
+    let r = convert(n - 1, second, words, q);
     sum_lists(first, z);
-    s
+    r
 }
 
 // Boolean to arithmetic, from the word at `at` on; the place after.

@@ -4,7 +4,7 @@ use Prim.Native.Nat.{_-_, _≤_}
 use mathlib.Core.Path.{_≡_, refl}
 use lib.ListN.{length, take}
 use Rattle.rules.specs.Sha1.{rotated}
-use Rattle.masked_words.proofs.Parts.{mapped-next, mapped-end}
+use Rattle.rules.proofs.Loops.{mapped-next, mapped-end}
 use Rattle.masked_words.proofs.rotate.Statement.{statement}
 use Rattle.masked_words.proofs.rotate.Tie as tie
 
