@@ -11,9 +11,9 @@ use lib.ListN.{length, getD, set, take, drop, length-append, length-drop, length
 use lib.Seq.{sets, length-sets, length-take-le, take-all, drop-at, drop-drop, take-append-le, drop-append-le}
 use Rattle.rules.specs.Shares.{each}
 use Rattle.rules.specs.Sha1.{word, rotl, rotated, ago, following, schedule}
+use Rattle.rules.proofs.Loops.{mapped-next, mapped-end}
 use Rattle.rules.proofs.Openings.{length-each, each-at}
 use Rattle.masked_words.specs.Words.{turned}
-use Rattle.masked_words.proofs.Parts.{mapped-next, mapped-end}
 use Rattle.masked_words.proofs.Turned.{turned-turned, turned-none, turned-one, turned-first, length-turned}
 use Rattle.schedule.specs.Window.{Window, slid}
 
@@ -56,7 +56,7 @@ module _ (k n : ℕ) (a b c d : List ℕ)
         → take i z ≡ take i (rotated k 1 (combined a b c d))
         → take (i + 1) (set z i v) ≡ take (i + 1) (rotated k 1 (combined a b c d))
     mixed-next v h e =
-        mapped-next (rotl k 1) (combined a b c d) z i (lz ∙ sym four) v (omega (arith, four))
+        mapped-next (rotl k 1) (combined a b c d) z i (lz ∙ sym four) (i + 1) v refl (omega (arith, four))
         (rw (share (each bitXor (each bitXor a b) c) d three ld h, share (each bitXor a b) c two lc h)
         (rw (share a b la lb h) e))
 
