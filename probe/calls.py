@@ -20,6 +20,10 @@ def b2a_words(n):
     return 2 * (n - 1) + a2b_words(n) + add_words(n)
 
 
+def short_words(n):
+    return 0 if n == 1 else 3 * n - 2 + 2 * short_words(n - 1)
+
+
 def compress_words(n):
     return 5220 * n * (n - 1)
 
@@ -84,6 +88,7 @@ def conversions(n):
     return [
         call("b2a", n, (Shares(x), Room(n), FreshWords(b2a_words(n))), **kept),
         call("a2b", n, (Shares(arithmetic), Room(n), FreshWords(a2b_words(n))), **kept),
+        call("b2a_short", n, (Shares(x), Room(n), FreshWords(short_words(n))), **kept),
     ]
 
 
@@ -138,7 +143,7 @@ def two_share_forms():
 
 def queries(n):
     """How many words the calls draw."""
-    by_count = "split refresh expand and add a2b b2a sha1_compress hmac_sha1_start".split()
+    by_count = "split refresh expand and add a2b b2a b2a_short sha1_compress hmac_sha1_start".split()
     asked = {name: (Number(n),) for name in by_count}
     asked |= {"split_key": (Number(n), Number(64)), "hmac_sha1": (Number(n), Number(3))}
     asked |= {"hmac_sha1_feed": (*state(n, 60), Number(5)), "hmac_sha1_finish": state(n, 3)}

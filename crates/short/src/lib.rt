@@ -45,7 +45,7 @@ fn psi_each(x: Word, r: &[Word], b: &mut [Word])
     }
 }
 
-// b of the shares a. Share 1 is held: else its own mask and a later share's would be taken together first.
+// b of the shares a. Share 1 is held, so that its mask and that of a later share are never taken together first.
 fn psi_shares(a: &[Word], b: &mut [Word], words: &[Word])
     requires { ⌜ (length (now a) ≡ length (now b) + 1) × (0 < length (now b)) ⌝ }
     ensures { λ _. ⌜ now (b .exit) ≡ psis bits (now (a .entry)) ⌝ }
