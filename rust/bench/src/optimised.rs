@@ -129,7 +129,7 @@ macro_rules! convert_by_halves {
 
 convert_by_halves!(2 of 1, 4 of 2, 8 of 4);
 
-/// The short conversion from Boolean to arithmetic at one share count. It takes its words at once too.
+/// The short conversion from Boolean to arithmetic at one share count. It takes its words at once, as an addition does.
 pub trait ConvertShort<const N: usize> {
     /// How many words it draws.
     const WORDS: usize;
@@ -189,7 +189,7 @@ impl ConvertShort<1> for Optimised {
     }
 }
 
-/// Nor can array lengths say one less or one more, so each count names both.
+/// One less and one more are nothing that array lengths can say either, so each count names both.
 macro_rules! convert_by_one_less {
     ($inline:meta, $($count:literal between $less:literal and $more:literal),*) => {$(
         impl ConvertShort<$count> for Optimised {
