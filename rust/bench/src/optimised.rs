@@ -155,8 +155,8 @@ fn folded<const N: usize, const LESS: usize>(list: &[u32; N]) -> [u32; LESS] {
     shorter
 }
 
-/// The short conversion by two at a share less. A refresh's last word goes into both entries that are put together
-/// after it, and the compiler leaves it out.
+/// The short conversion by two at a share less. Of the words that refresh a list the last goes into both entries that
+/// are put together after it, and the compiler leaves it out.
 #[inline(always)]
 fn convert_short<const LESS: usize, const N: usize, const MORE: usize>(
     x: &[u32; N],
@@ -191,11 +191,11 @@ impl ConvertShort<1> for Optimised {
 
 /// One less and one more are nothing that array lengths can say either, so each count names both.
 macro_rules! convert_by_one_less {
-    ($inline:meta, $($count:literal between $less:literal and $more:literal),*) => {$(
+    ($($count:literal between $less:literal and $more:literal),*) => {$(
         impl ConvertShort<$count> for Optimised {
             const WORDS: usize = $count + 2 * $less + 2 * <Self as ConvertShort<$less>>::WORDS;
 
-            #[$inline]
+            #[inline(always)]
             fn by_words(x: &[u32; $count], words: &[u32]) -> [u32; $count] {
                 convert_short::<$less, $count, $more>(x, words)
             }
@@ -203,10 +203,8 @@ macro_rules! convert_by_one_less {
     )*};
 }
 
-// With seven inlined as well, eight shares take three times as long.
-convert_by_one_less!(inline(always), 2 between 1 and 3, 3 between 2 and 4, 4 between 3 and 5);
-convert_by_one_less!(inline(always), 5 between 4 and 6, 6 between 5 and 7);
-convert_by_one_less!(inline(never), 7 between 6 and 8, 8 between 7 and 9);
+convert_by_one_less!(2 between 1 and 3, 3 between 2 and 4, 4 between 3 and 5, 5 between 4 and 6);
+convert_by_one_less!(6 between 5 and 7, 7 between 6 and 8, 8 between 7 and 9);
 
 /// A word in N shares.
 type Shared<const N: usize> = [u32; N];
