@@ -128,6 +128,12 @@ flamivorse_answer flamivorse_a2b(size_t n, const uint32_t *a, size_t a_len, uint
 flamivorse_answer flamivorse_b2a(size_t n, const uint32_t *x, size_t x_len, uint32_t *a, size_t a_len,
                                  const uint32_t *words, size_t words_len);
 
+/* Boolean to arithmetic by the short conversion, which has no carry loop: writes to a arithmetic shares of what x
+ * shares by XOR, as flamivorse_b2a does, but draws only 0, 4, 40 or 868 words. n is 1, 2, 4 or 8.
+ * Refuses with 1, 2, 3, 5. */
+flamivorse_answer flamivorse_b2a_short(size_t n, const uint32_t *x, size_t x_len, uint32_t *a, size_t a_len,
+                                       const uint32_t *words, size_t words_len);
+
 /* SHA-1 and HMAC-SHA-1 on shares. */
 
 /* Splits a key of at most 1,024 bytes into the Boolean shares of HMAC's key block, 16 big-endian words: shares has 16n
@@ -185,6 +191,7 @@ flamivorse_answer flamivorse_and_words(size_t n);
 flamivorse_answer flamivorse_add_words(size_t n);
 flamivorse_answer flamivorse_a2b_words(size_t n);
 flamivorse_answer flamivorse_b2a_words(size_t n);
+flamivorse_answer flamivorse_b2a_short_words(size_t n);
 flamivorse_answer flamivorse_split_key_words(size_t n, size_t key_len);
 flamivorse_answer flamivorse_sha1_compress_words(size_t n);
 flamivorse_answer flamivorse_hmac_sha1_words(size_t n, size_t message_len);

@@ -11,14 +11,15 @@ mod optimised;
 mod plot;
 
 use flamivorse::{Chain, State, TAG_BYTES};
-use optimised::{Convert, Optimised, Supply};
+use optimised::{Convert, ConvertShort, Optimised, Supply};
 use std::hint::black_box;
 use std::time::{Duration, Instant};
 
-const STEPS: [&str; 8] = [
+const STEPS: [&str; 9] = [
     "addition",
     "a2b",
     "b2a",
+    "b2a-short",
     "compression",
     "key",
     "long-key",
@@ -106,6 +107,10 @@ fn archive<const N: usize>(step: &str, lent: Lent) -> Step {
             flamivorse::b2a(N, black_box(x), &mut z, words).expect(DONE);
             digest(z)
         }),
+        "b2a-short" => Box::new(move || {
+            flamivorse::b2a_short(N, black_box(x), &mut z, words).expect(DONE);
+            digest(z)
+        }),
         "compression" => Box::new(move || {
             let mut chain = Chain { shares: [0; 40] };
             chain.shares[..5 * N].copy_from_slice(&input[..5 * N]);
@@ -155,7 +160,7 @@ fn streamed<const N: usize>(lent: Lent) -> u32 {
 /// The step in optimised Rust. A streamed tag has the compressions of a tag, and is compared with that.
 fn rust<const N: usize>(step: &str, lent: Lent) -> Step
 where
-    Optimised: Convert<N>,
+    Optimised: Convert<N> + ConvertShort<N>,
 {
     let Lent { input, words, .. } = lent;
     let [x, y] = shared::<N, 2>(input);
@@ -164,6 +169,7 @@ where
         "addition" => Box::new(move || digest(optimised::add(black_box(&x), &y, &mut supply()))),
         "a2b" => Box::new(move || digest(Optimised::a2b(black_box(&x), &mut supply()))),
         "b2a" => Box::new(move || digest(Optimised::b2a(black_box(&x), &mut supply()))),
+        "b2a-short" => Box::new(move || digest(Optimised::b2a_short(black_box(&x), &mut supply()))),
         "compression" => Box::new(move || {
             let (chain, block) = (shared(input), shared(black_box(input)));
             digest(optimised::compress::<N>(&chain, &block, &mut supply()).concat())
@@ -187,6 +193,7 @@ fn drawn(step: &str, n: usize, bytes: usize) -> usize {
         "addition" => flamivorse::add_words(n),
         "a2b" => flamivorse::a2b_words(n),
         "b2a" => flamivorse::b2a_words(n),
+        "b2a-short" => flamivorse::b2a_short_words(n),
         "compression" => flamivorse::sha1_compress_words(n),
         "key" | "long-key" => flamivorse::split_key_words(n, key(step).len()),
         _ => flamivorse::hmac_sha1_words(n, bytes),

@@ -44,6 +44,16 @@ fn expand<const N: usize, const TWICE: usize>(x: [u32; N], supply: &mut Supply) 
     })
 }
 
+/// Each share but the last with the last, by the first N - 1 of these words.
+#[inline(always)]
+fn refresh<const N: usize>(mut shares: [u32; N], words: &[u32]) -> [u32; N] {
+    for (i, word) in words[..N - 1].iter().enumerate() {
+        shares[i] ^= word;
+        shares[N - 1] ^= word;
+    }
+    shares
+}
+
 /// How many words an AND draws: one for each pair of shares.
 const fn pairs(shares: usize) -> usize {
     shares * (shares - 1) / 2
@@ -87,11 +97,8 @@ pub trait Convert<const N: usize> {
         let mut a = [0; N];
         a[..N - 1].copy_from_slice(supply.draw(N - 1));
         let converted = Self::a2b(&a.map(u32::wrapping_neg), supply);
-        let mut sum = add(x, &converted, supply);
-        for (i, word) in supply.draw(N - 1).iter().enumerate() {
-            sum[i] ^= word;
-            sum[N - 1] ^= word;
-        }
+        let sum = add(x, &converted, supply);
+        let sum = refresh(sum, supply.draw(N - 1));
         a[N - 1] = sum.iter().fold(0, |opened, share| opened ^ share);
         a
     }
@@ -121,6 +128,83 @@ macro_rules! convert_by_halves {
 }
 
 convert_by_halves!(2 of 1, 4 of 2, 8 of 4);
+
+/// The short conversion from Boolean to arithmetic at one share count. It takes its words at once, as an addition does.
+pub trait ConvertShort<const N: usize> {
+    /// How many words it draws.
+    const WORDS: usize;
+
+    fn by_words(x: &[u32; N], words: &[u32]) -> [u32; N];
+
+    fn b2a_short(x: &[u32; N], supply: &mut Supply) -> [u32; N] {
+        Self::by_words(x, supply.draw(Self::WORDS))
+    }
+}
+
+/// Entries of a list from this place on, as many as asked for; after its end they are 0.
+#[inline(always)]
+fn entries<const N: usize, const TAKEN: usize>(list: &[u32; N], first: usize) -> [u32; TAKEN] {
+    std::array::from_fn(|i| list.get(first + i).copied().unwrap_or(0))
+}
+
+/// A list with its last entry put into the one before.
+#[inline(always)]
+fn folded<const N: usize, const LESS: usize>(list: &[u32; N]) -> [u32; LESS] {
+    let mut shorter = entries(list, 0);
+    shorter[LESS - 1] ^= list[N - 1];
+    shorter
+}
+
+/// The short conversion by two at a share less. Of the words that refresh a list the last goes into both entries that
+/// are put together after it, and the compiler leaves it out.
+#[inline(always)]
+fn convert_short<const LESS: usize, const N: usize, const MORE: usize>(
+    x: &[u32; N],
+    words: &[u32],
+) -> [u32; N]
+where
+    Optimised: ConvertShort<LESS>,
+{
+    let shares: [u32; MORE] = refresh(entries(x, 0), words);
+    let later: [u32; N] = entries(&shares, 1);
+    let mut b = later.map(|share| (shares[0] ^ share).wrapping_sub(share));
+    if N.is_multiple_of(2) {
+        b[0] ^= shares[0];
+    }
+    let first = folded(&refresh(later, &words[N..]));
+    let second = folded(&refresh(b, &words[N + LESS..]));
+    let (left, right) = words[N + 2 * LESS..].split_at(Optimised::WORDS);
+    let first: [u32; LESS] = Optimised::by_words(&first, left);
+    let second: [u32; LESS] = Optimised::by_words(&second, right);
+    let mut a = entries(&each(&first, &second, u32::wrapping_add), 0);
+    (a[LESS - 1], a[LESS]) = (first[LESS - 1], second[LESS - 1]);
+    a
+}
+
+impl ConvertShort<1> for Optimised {
+    const WORDS: usize = 0;
+
+    fn by_words(x: &[u32; 1], _: &[u32]) -> [u32; 1] {
+        *x
+    }
+}
+
+/// One less and one more are nothing that array lengths can say either, so each count names both.
+macro_rules! convert_by_one_less {
+    ($($count:literal between $less:literal and $more:literal),*) => {$(
+        impl ConvertShort<$count> for Optimised {
+            const WORDS: usize = $count + 2 * $less + 2 * <Self as ConvertShort<$less>>::WORDS;
+
+            #[inline(always)]
+            fn by_words(x: &[u32; $count], words: &[u32]) -> [u32; $count] {
+                convert_short::<$less, $count, $more>(x, words)
+            }
+        }
+    )*};
+}
+
+convert_by_one_less!(2 between 1 and 3, 3 between 2 and 4, 4 between 3 and 5, 5 between 4 and 6);
+convert_by_one_less!(6 between 5 and 7, 7 between 6 and 8, 8 between 7 and 9);
 
 /// A word in N shares.
 type Shared<const N: usize> = [u32; N];

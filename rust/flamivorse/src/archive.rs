@@ -228,6 +228,7 @@ extern "C" {
     pub(crate) fn flamivorse_add(n: usize, x: *const u32, x_len: usize, y: *const u32, y_len: usize, z: *mut u32, z_len: usize, words: *const u32, words_len: usize) -> Answer;
     pub(crate) fn flamivorse_a2b(n: usize, a: *const u32, a_len: usize, x: *mut u32, x_len: usize, words: *const u32, words_len: usize) -> Answer;
     pub(crate) fn flamivorse_b2a(n: usize, x: *const u32, x_len: usize, a: *mut u32, a_len: usize, words: *const u32, words_len: usize) -> Answer;
+    pub(crate) fn flamivorse_b2a_short(n: usize, x: *const u32, x_len: usize, a: *mut u32, a_len: usize, words: *const u32, words_len: usize) -> Answer;
 
     pub(crate) fn flamivorse_split_key(n: usize, key: *const u8, key_len: usize, shares: *mut u32, shares_len: usize, words: *const u32, words_len: usize) -> Answer;
     pub(crate) fn flamivorse_sha1_compress(n: usize, chain: Chain, block: *const u32, block_len: usize, words: *const u32, words_len: usize) -> Compressed;
@@ -244,6 +245,7 @@ extern "C" {
     pub(crate) fn flamivorse_add_words(n: usize) -> Answer;
     pub(crate) fn flamivorse_a2b_words(n: usize) -> Answer;
     pub(crate) fn flamivorse_b2a_words(n: usize) -> Answer;
+    pub(crate) fn flamivorse_b2a_short_words(n: usize) -> Answer;
     pub(crate) fn flamivorse_split_key_words(n: usize, key_len: usize) -> Answer;
     pub(crate) fn flamivorse_sha1_compress_words(n: usize) -> Answer;
     pub(crate) fn flamivorse_hmac_sha1_words(n: usize, message_len: usize) -> Answer;

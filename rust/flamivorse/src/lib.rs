@@ -70,8 +70,8 @@ pub use hmac::{
     Key, KEY_LIMIT, MESSAGE_LIMIT, TAG_BYTES,
 };
 pub use shares::{
-    a2b, a2b_words, add, add_words, and, and_words, b2a, b2a_words, expand, expand_words, open_sum,
-    open_xor, refresh, refresh_words, split, split_words,
+    a2b, a2b_words, add, add_words, and, and_words, b2a, b2a_short, b2a_short_words, b2a_words,
+    expand, expand_words, open_sum, open_xor, refresh, refresh_words, split, split_words,
 };
 pub use stream::{
     hmac_sha1_feed, hmac_sha1_feed_words, hmac_sha1_finish, hmac_sha1_finish_words,

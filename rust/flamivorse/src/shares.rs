@@ -123,6 +123,23 @@ pub fn b2a(n: usize, x: &[u32], a: &mut [u32], words: &[u32]) -> Result<Drawn, R
     call!(flamivorse_b2a(n), reads [x], writes a, draws words).result()
 }
 
+/// Boolean to arithmetic by the short conversion, which has no carry loop: writes to `a` arithmetic
+/// shares of what `x` shares by XOR, as [`b2a`] does, but draws fewer words. The share count is 1, 2,
+/// 4 or 8.
+///
+/// ```
+/// use flamivorse::{b2a_short, b2a_short_words, open_sum, Supply};
+///
+/// let mut supply = Supply::from_system()?;
+/// let mut a = [0; 2];
+/// b2a_short(2, &[1001, 1], &mut a, supply.lend(b2a_short_words(2)?)?)?;
+/// assert_eq!(open_sum(2, &a), Ok(1000));
+/// # Ok::<(), Box<dyn std::error::Error>>(())
+/// ```
+pub fn b2a_short(n: usize, x: &[u32], a: &mut [u32], words: &[u32]) -> Result<Drawn, Refusal> {
+    call!(flamivorse_b2a_short(n), reads [x], writes a, draws words).result()
+}
+
 queries! {
     split_words = flamivorse_split_words, "split", 1;
     refresh_words = flamivorse_refresh_words, "refresh", 1;
@@ -131,4 +148,5 @@ queries! {
     add_words = flamivorse_add_words, "add", 32;
     a2b_words = flamivorse_a2b_words, "a2b", 34;
     b2a_words = flamivorse_b2a_words, "b2a", 68;
+    b2a_short_words = flamivorse_b2a_short_words, "b2a_short", 4;
 }

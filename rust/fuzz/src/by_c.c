@@ -109,6 +109,7 @@ outcome make_by_c(const char *name, arguments *a)
     CALL(add, counted, n, SLICE(inputs[0]), SLICE(inputs[1]), SLICE(output), SLICE(words));
     CALL(a2b, counted, n, SLICE(inputs[0]), SLICE(output), SLICE(words));
     CALL(b2a, counted, n, SLICE(inputs[0]), SLICE(output), SLICE(words));
+    CALL(b2a_short, counted, n, SLICE(inputs[0]), SLICE(output), SLICE(words));
     CALL(split_key, counted, n, SLICE(bytes), SLICE(output), SLICE(words));
     CHANGE(sha1_compress, compressed, n, *a->chain, SLICE(inputs[0]), SLICE(words));
     CALL(hmac_sha1, counted, n, SLICE(inputs[0]), SLICE(bytes), SLICE(tag), SLICE(words));
@@ -131,6 +132,7 @@ outcome ask_by_c(const char *name, outline state, size_t bytes)
     QUERY(add, n);
     QUERY(a2b, n);
     QUERY(b2a, n);
+    QUERY(b2a_short, n);
     QUERY(split_key, n, bytes);
     QUERY(sha1_compress, n);
     QUERY(hmac_sha1, n, bytes);

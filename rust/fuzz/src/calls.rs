@@ -275,7 +275,7 @@ pub static TWO_SHARE_CALLS: [Call; 4] = [
 ];
 
 /// Every call on n shares.
-pub static CALLS: [Call; 12] = [
+pub static CALLS: [Call; 13] = [
     OPENING,
     Call {
         name: "open_sum",
@@ -364,6 +364,18 @@ pub static CALLS: [Call; 12] = [
             a.words.slice()
         )),
         query: Some(both!(|state, _bytes| b2a_words(state.n))),
+        ..OPENING
+    },
+    Call {
+        name: "b2a_short",
+        output: 1,
+        made: both!(|a| b2a_short(
+            a.n,
+            a.inputs[0].slice(),
+            a.output.slice_mut(),
+            a.words.slice()
+        )),
+        query: Some(both!(|state, _bytes| b2a_short_words(state.n))),
         ..OPENING
     },
     Call {

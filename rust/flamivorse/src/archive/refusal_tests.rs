@@ -23,32 +23,19 @@ fn on_shares() {
     for (n, input, output, number) in REFUSED {
         let x = &many()[..n * input];
         let z = &mut many()[..n * output];
-        let none: &[u32] = &[];
-        refused(
-            call!(flamivorse_refresh(n), reads [x], writes z, draws none),
-            number,
-        );
-        refused(
-            call!(flamivorse_and(n), reads [x, x], writes z, draws none),
-            number,
-        );
-        refused(
-            call!(flamivorse_add(n), reads [x, x], writes z, draws none),
-            number,
-        );
-        refused(
-            call!(flamivorse_a2b(n), reads [x], writes z, draws none),
-            number,
-        );
-        refused(
-            call!(flamivorse_b2a(n), reads [x], writes z, draws none),
-            number,
-        );
         let twice = &mut many()[..2 * n * output];
-        refused(
+        let none: &[u32] = &[];
+        for answer in [
+            call!(flamivorse_refresh(n), reads [x], writes z, draws none),
             call!(flamivorse_expand(n), reads [x], writes twice, draws none),
-            number,
-        );
+            call!(flamivorse_and(n), reads [x, x], writes z, draws none),
+            call!(flamivorse_add(n), reads [x, x], writes z, draws none),
+            call!(flamivorse_a2b(n), reads [x], writes z, draws none),
+            call!(flamivorse_b2a(n), reads [x], writes z, draws none),
+            call!(flamivorse_b2a_short(n), reads [x], writes z, draws none),
+        ] {
+            refused(answer, number);
+        }
         if number != 2 {
             refused(
                 call!(flamivorse_split(n, 7), reads [], writes z, draws none),
@@ -224,6 +211,7 @@ fn queries() {
         refused(query!(flamivorse_add_words(n)), 1);
         refused(query!(flamivorse_a2b_words(n)), 1);
         refused(query!(flamivorse_b2a_words(n)), 1);
+        refused(query!(flamivorse_b2a_short_words(n)), 1);
         refused(query!(flamivorse_sha1_compress_words(n)), 1);
         refused(query!(flamivorse_split_key_words(n, 1025)), 1);
         refused(query!(flamivorse_hmac_sha1_words(n, 4097)), 1);

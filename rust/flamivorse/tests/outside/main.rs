@@ -6,6 +6,7 @@
 //! ran, as `cases: N, what`.
 
 mod against_second;
+mod both_ways;
 mod keys;
 mod reference;
 mod refusals;

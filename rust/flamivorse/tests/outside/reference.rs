@@ -1,10 +1,11 @@
 //! The reference values of the rules that hold at 32 bits: P3, P5, P6 and P9 to P11; and those of
-//! docs/RULES.md for a supply of given words.
+//! docs/RULES.md for a supply of given words. The short conversion has its counts, and a value that the
+//! tests of `second` work out by hand.
 
 use crate::report;
 use flamivorse::{
-    a2b, a2b_words, add, and, b2a_2_record, b2a_words, expand, hmac_sha1_words, split_key, Drawn,
-    Refusal,
+    a2b, a2b_words, add, and, b2a_2_record, b2a_short, b2a_short_words, b2a_words, expand,
+    hmac_sha1_words, split_key, Drawn, Refusal,
 };
 
 #[test]
@@ -21,7 +22,10 @@ fn shares() {
         (b2a_2_record(0, 0, 0, &mut record), record),
         (Ok(()), [0; 7])
     );
-    report(3, "reference values of shares");
+    let words = [0x01, 0x02, 0x40, 0x80];
+    let drawn = b2a_short(2, &[0x13, 0x36], &mut z, &words);
+    assert_eq!((drawn.map(Drawn::words), z), (Ok(4), [0x37, 0xffff_ffee]));
+    report(4, "reference values of shares");
 }
 
 /// The words that docs/RULES.md lends.
@@ -62,7 +66,8 @@ fn counts() {
     };
     assert_eq!(counted(a2b_words), [0, 34, 264, 1_432].map(Ok));
     assert_eq!(counted(b2a_words), [0, 68, 462, 2_342].map(Ok));
+    assert_eq!(counted(b2a_short_words), [0, 4, 40, 868].map(Ok));
     let tags = [55, 56].map(|length| hmac_sha1_words(2, length).map(Drawn::words));
     assert_eq!(tags, [41_760, 52_200].map(Ok));
-    report(10, "reference values of counts");
+    report(14, "reference values of counts");
 }
