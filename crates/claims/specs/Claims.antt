@@ -36,7 +36,8 @@ use Rattle.rules.specs.Outcome.{Power, Allowed, Fit, Whole, None, Asks, Done, G
 use Rattle.rules.proofs.Outcomes.{untested, says-power, says-count, says-eq, says-le, says-two, exactly, follows, makes}
 use Rattle.rules.proofs.Outcomes.{makes-as, only, done-only, open-settles, record-settles, record-independent}
 use Rattle.rules.proofs.AtCalls.{some, add-count, expand-law, and-law, add-law, toBool-law, toArith-law, toArith-sums}
-use Rattle.rules.proofs.AtCalls.{short-law, toArith-keeps, there-back, back-there, short-count, long-count, splitKey-law, split-opens}
+use Rattle.rules.proofs.AtCalls.{short-law, toArith-keeps, there-back, back-there, short-count, long-count}
+use Rattle.rules.proofs.AtCalls.{splitKey-law, split-opens}
 use Rattle.rules.proofs.AtCalls.{hmacTag-law, tags, xor-off}
 use Rattle.rules.proofs.AtCalls.{compress-outcome, compress-drawn, compress-past, compress-opens-to}
 use Rattle.rules.proofs.AtStreams.{start-outcome, start-count, start-past, feed-outcome, feed-count, feed-past}
@@ -99,7 +100,8 @@ pub record CallsFollow (n : ℕ) : Type 0 where
   pub and-follows : (x y : List ℕ)
       → Follows (Allowed n) ((length x ≡ n) × (length y ≡ n)) n None (n * (n - 1) / 2) (and x y) (andCall n x y)
   pub add-follows : (x y : List ℕ)
-      → Follows (Allowed n) ((length x ≡ n) × (length y ≡ n)) n None (16 * (n * (n - 1))) (add 32 x y) (addCall 32 n x y)
+      → Follows (Allowed n) ((length x ≡ n) × (length y ≡ n)) n None (16 * (n * (n - 1)))
+      (add 32 x y) (addCall 32 n x y)
   pub a2b-follows : (a : List ℕ) → Words 32 a
       → Follows (Allowed n) (length a ≡ n) n None (W n) (toBool (add 32) a) (a2bCall 32 n a)
   pub b2a-follows : (x : List ℕ) → Words 32 x
@@ -111,8 +113,8 @@ pub record CallsFollow (n : ℕ) : Type 0 where
       → Follows (Allowed n) None (16 * n) (length key ≤ 1024) (D n (length key))
       (splitKey (sha1 32) n key) (splitKeyCall 32 n key)
   pub hmac-follows : (key text : List ℕ)
-      → Follows (Allowed n) (length key ≡ 16 * n) 20 (length text ≤ 4096) (((length text + 8) / 64 + 4) * (5220 * (n * (n - 1))))
-      (hmacTag (sha1 32) n key text) (hmacCall 32 n key text)
+      → Follows (Allowed n) (length key ≡ 16 * n) 20 (length text ≤ 4096)
+      (((length text + 8) / 64 + 4) * (5220 * (n * (n - 1)))) (hmacTag (sha1 32) n key text) (hmacCall 32 n key text)
 
 pub calls-follow : (n : ℕ) → CallsFollow n
 unfolding first test call
@@ -126,9 +128,11 @@ calls-follow n =
       a2b-follows = λ a u. follows (says-count n) (says-eq (length a) n) untested (λ c i t. toBool-law n c a i u);
       b2a-follows = λ x u. follows (says-count n) (says-eq (length x) n) untested (λ c i t. toArith-law n c x i u);
       b2a-short-follows = λ x. follows (says-power n) (says-eq (length x) n) untested (λ c i t. short-law n c x i);
-      split-key-follows = λ key. follows (says-count n) untested (says-le (length key) 1024) (λ c i t. splitKey-law n c key);
+      split-key-follows = λ key.
+          follows (says-count n) untested (says-le (length key) 1024) (λ c i t. splitKey-law n c key);
       hmac-follows = λ key text.
-          follows (says-count n) (says-eq (length key) (16 * n)) (says-le (length text) 4096) (λ c i t. hmacTag-law n c key text i);
+          follows (says-count n) (says-eq (length key) (16 * n)) (says-le (length text) 4096)
+          (λ c i t. hmacTag-law n c key text i);
     }
 
 -- An opening gives 0, 1 or 2: the XOR of the shares, or their sum modulo 2^32; refused, the word 0.
@@ -227,8 +231,8 @@ pub back-and-there : (n : ℕ) (a : List ℕ) → Words 32 a
     → Makes 32 (a2bCall 32 n a) (λ x. Makes 32 (b2aCall 32 n x) (λ b. total b % 2 ^ 32 ≡ total a % 2 ^ 32))
 back-and-there n a u = makes (calls-follow n .a2b-follows a u) (λ c i t. back-there n c a i u)
 
--- The short conversion at every width and of any number of shares: it keeps the secret, and draws V(n) words. So it opens
--- to what the other does; of calls, b2a-keeps and b2a-short-keeps say so.
+-- The short conversion at every width and of any number of shares: it keeps the secret, and draws V(n) words. So it
+-- opens to what the other does; of calls, b2a-keeps and b2a-short-keeps say so.
 module _ (k : ℕ) (x ws : List ℕ) (at : ℕ) where
   pub short-keeps : Words k ws → Words k x → total (toArithShort k x ws at .0) % 2 ^ k ≡ opened x
   short-keeps = toArithShort-opens k x ws at

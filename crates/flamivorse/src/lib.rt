@@ -3,7 +3,8 @@
 ghost use mathlib.Core.Path.{_≡_};
 ghost use Rattle.rules.specs.Calls.{b2aTwo, a2bTwo, b2aRecordCall, a2bRecordCall, splitCall, openXorCall, openSumCall};
 ghost use Rattle.rules.specs.Calls.{refreshCall, expandCall, andCall, addCall, a2bCall, b2aCall, b2aShortCall};
-ghost use Rattle.rules.specs.Calls.{splitWords, refreshWords, expandWords, andWords, addWords, a2bWords, b2aWords, b2aShortWords};
+ghost use Rattle.rules.specs.Calls.{splitWords, refreshWords, expandWords, andWords, addWords, a2bWords, b2aWords};
+ghost use Rattle.rules.specs.Calls.{b2aShortWords};
 ghost use Rattle.rules.specs.Calls.{splitKeyCall, compressCall, hmacCall, splitKeyWords, compressWords, hmacWords};
 ghost use Rattle.rules.specs.Stream.{startCall, feedCall, finishCall, startWords, feedWords, finishWords};
 ghost use Rattle.rules.specs.Counts.{sha1};

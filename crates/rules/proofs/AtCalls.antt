@@ -24,7 +24,8 @@ use Rattle.rules.specs.Hash.{wordsOf, keyBlock, hmac}
 use Rattle.rules.specs.Standard.{SHA1, compress as compressOf}
 use Rattle.rules.specs.Sha1.{openWords, compress, used, chainOf}
 use Rattle.rules.specs.Hmac.{splitKey, hmacTag}
-use Rattle.rules.specs.Counts.{andDraws, addDraws, refreshDraws, toBoolDraws, toArithDraws, shortDraws, keyDraws, sha1}
+use Rattle.rules.specs.Counts.{andDraws, addDraws, refreshDraws, toBoolDraws, toArithDraws, shortDraws}
+use Rattle.rules.specs.Counts.{keyDraws, sha1}
 use Rattle.rules.specs.Calls.{call, compressCall, a2bCall, b2aCall, hmacCall}
 use Rattle.rules.specs.Outcome.{Power, Allowed, None, Given, Settles, Makes}
 use Rattle.rules.proofs.Loops.{length-used}
@@ -42,7 +43,8 @@ use Rattle.rules.proofs.Sizes.{add-sizes, compress-sized, hmacTag-sized
 use Rattle.rules.proofs.Sizes.{andDraws-twice, compress-count}
 use Rattle.rules.proofs.Opens.{Masks, sha1-opens, compress-opens}
 use Rattle.rules.proofs.Tags.{sha1-proper, sha1-chains, splitKey-opens, hmacTag-is}
-use Rattle.rules.proofs.Outcomes.{says-power, says-count, says-eq, untested, passed, given, settles, settled-pair, asked}
+use Rattle.rules.proofs.Outcomes.{says-power, says-count, says-eq, untested, passed, given, settles}
+use Rattle.rules.proofs.Outcomes.{settled-pair, asked}
 use Rattle.rules.proofs.Outcomes.{place, says-supply, alike, as-long}
 
 -- ---- counts in closed form
@@ -83,7 +85,8 @@ adds = add-adds 32 (lit< tt)
 pub toArith-keeps : (k : ℕ) → 0 < k → (p : ℕ) (x : List ℕ) → length x ≡ 2 ^ p → Words k x
     → (ws : List ℕ) (at : ℕ) → Words k ws → total (toArith k (add k) refresh x ws at .0) % 2 ^ k ≡ opened x
 toArith-keeps k wide p x size u ws at =
-    toArith-opens k (addDraws k) (add k) (add-adds k wide) refreshDraws refresh refresh-refreshes p x size (opened-lt k x u) ws at
+    toArith-opens k (addDraws k) (add k) (add-adds k wide) refreshDraws refresh refresh-refreshes p x size
+    (opened-lt k x u) ws at
 
 -- the short conversion
 pub short-law : (n : ℕ) → Power n → (x : List ℕ) → length x ≡ n

@@ -184,8 +184,8 @@ module _ (n : ℕ) (came ws : List ℕ) (q : Answer) where
             needs (toArithDraws (addDraws 32) refreshDraws (length x)) q _ ws (rw size e) (taken n count)
             (toArith-rule 32 (addDraws 32) (add 32) added refreshDraws refresh refresh-refreshes (t .0) x (size ∙ t .1) secret)
 
-    pub toArithShort-needs : first (oneTests (power n) n n x came) ≡ 0 → query (test 1 (power n) ∷ []) (shortDraws n) ≡ q
-        → toArithShort 32 x ws 0 .1 ≡ q .drawn
+    pub toArithShort-needs : first (oneTests (power n) n n x came) ≡ 0
+        → query (test 1 (power n) ∷ []) (shortDraws n) ≡ q → toArithShort 32 x ws 0 .1 ≡ q .drawn
     toArithShort-needs h e =
         let p = passed _ h in
         let size = eqb-true (length x) n (holds _ _ (p .1 .0)) in

@@ -11,7 +11,8 @@ use Rattle.rules.specs.declared.Opened.{Opened}
 use Rattle.rules.specs.declared.Chain.{Chain}
 use Rattle.rules.specs.declared.Compressed.{Compressed}
 use Rattle.rules.specs.Supply.{Draw, Count, Supply, Sharing, split, opened, openedSum}
-use Rattle.rules.specs.Numbers.{longestKey, longestMessage, both, power, allowed, Test, test, first, settled, told}
+use Rattle.rules.specs.Numbers.{longestKey, longestMessage, both, power, allowed}
+use Rattle.rules.specs.Numbers.{Test, test, first, settled, told}
 use Rattle.rules.specs.Goubin.{b2aRecord, a2bRecord}
 use Rattle.rules.specs.Shares.{refresh, expand, and, add}
 use Rattle.rules.specs.Convert.{toBool, toArith}

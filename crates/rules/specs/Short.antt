@@ -1,5 +1,5 @@
--- Section 5, and request (iv): the short conversion, Boolean to arithmetic without a carry loop, for any number of shares
--- of k bits.
+-- Section 5, and request (iv): the short conversion, Boolean to arithmetic without a carry loop, for any number of
+-- shares of k bits.
 use Prim.Native.Nat.{ℕ, zero, suc, _-_, _%_}
 use mathlib.Core.List.{[], _∷_, _++_, map}
 use lib.Bits.{bitXor}
@@ -30,8 +30,8 @@ summed k p q =
     let last = length p - 1 in
     each (plus k) (take last p) (take last q) ++ (getD p last 0 ∷ getD q last 0 ∷ [])
 
--- n shares, more than one: append a zero share and refresh; refresh shares 2 to n+1, then b; convert the first list, then
--- the second, by the rule for n−1 shares
+-- n shares, more than one: append a zero share and refresh; refresh shares 2 to n+1, then b; convert the first list,
+-- then the second, by the same rule at n−1
 unfoldable pub shorter : Width → (Sharing → Draw Sharing) → Sharing → Draw Sharing
 shorter k convert x ws at =
     let a = refreshLast (x ++ (0 ∷ [])) ws at in

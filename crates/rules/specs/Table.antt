@@ -56,5 +56,6 @@ table =
 pub reference : map (λ (r : Row). r .given) table ≡ map (λ (r : Row). r .stated) table
 unfolding table psi b2aRecord a2bStart a2bRound a2bRounds a2bRecord plus minus shift next opened
     each pass along order column refreshLast refresh expand and carries add
-    widen halved toBoolIn toBool toArith psis joined summed shorter shortOf toArithShort andDraws quarterAnds roundsAnds compressAnds
+    widen halved toBoolIn toBool toArith psis joined summed shorter shortOf toArithShort
+    andDraws quarterAnds roundsAnds compressAnds
 reference = refl

@@ -12,6 +12,7 @@ use lib.Seq.{take-all, length-take-le, take-append-le, take-take, take-at, drop-
 use borrow.Author.Tests.{eq-eqb, ne-eqb}
 use Rattle.words.specs.Word.{plus}
 use Rattle.words.proofs.Stores.{set-last}
+use Rattle.rules.specs.Numbers.{largest}
 use Rattle.rules.specs.Goubin.{psi}
 use Rattle.rules.specs.Shares.{each, refreshLast}
 use Rattle.rules.specs.Short.{psis, joined, summed, shorter, shortOf, toArithShort}
@@ -21,7 +22,7 @@ use Rattle.rules.proofs.Loops.{Run}
 use Rattle.rules.proofs.Openings.{length-each}
 use Rattle.rules.proofs.Pairs.{refreshLast-rule}
 use Rattle.rules.proofs.Short.{length-psis, length-joined, short-rule, shortOf-more, short-none, short-more}
-use Rattle.short.specs.Steps.{ready, lists, twoLists}
+use Rattle.short.specs.Steps.{Many, ready, lists, twoLists}
 
 -- ---- b: its entries, and share 1 in the first of an even number
 module _ (k n share : ℕ) (a b : List ℕ) (size : length a ≡ n + 1) (first : share ≡ getD a 0 0)
@@ -54,7 +55,8 @@ unfolding ready joined
 ready-made l r ws at p same e = rw (e, same)
 
 -- ---- both lists: the later shares lie behind the first of a, and b was worked out from a
-module _ (k at p q : ℕ) (a b₀ b later c rest ws : List ℕ) (kept : length b ≡ length b₀) (size : length a ≡ length b₀ + 1) where
+module _ (k at p q : ℕ) (a b₀ b later c rest ws : List ℕ)
+    (kept : length b ≡ length b₀) (size : length a ≡ length b₀ + 1) where
   abbrev lent : List ℕ
   lent = take (length b + 1 - 1) (drop 1 a)
 
@@ -70,7 +72,8 @@ module _ (k at p q : ℕ) (a b₀ b later c rest ws : List ℕ) (kept : length b
   unfolding lists
   lists-made e l f g =
       let m = length b₀ - 1 in
-      let first : ready (drop 1 a) ws at ≡ (take m later, p) = rw (← part) (f ∙ ap (λ n. (take (n - 1) later, p)) lent-all) in
+      let first : ready (drop 1 a) ws at ≡ (take m later, p) =
+      rw (← part) (f ∙ ap (λ n. (take (n - 1) later, p)) lent-all) in
       let second : ready (psis k a) ws p ≡ (take m c, q) = rw (← e) (g ∙ ap (λ n. (take (n - 1) c, q)) kept) in
       let behind : drop 1 (take 1 a ++ (later ++ rest)) ≡ later ++ rest =
       drop-at (take 1 a) (later ++ rest) 1 (length-take-le 1 a (omega arith)) in
@@ -97,7 +100,8 @@ sum-made k first z s some size e =
     let front : s ≡ each (plus k) (take last first) (take last z) = rw (sub-zero last) at e in
     let lf = length-take-le last first (omega arith) in
     let lz = length-take-le last z (omega arith) in
-    let long : length s ≡ last = ap length front ∙ length-each (plus k) (take last first) (take last z) (lz ∙ sym lf) ∙ lf in
+    let long : length s ≡ last =
+    ap length front ∙ length-each (plus k) (take last first) (take last z) (lz ∙ sym lf) ∙ lf in
     let none : drop (suc (suc last)) z ≡ [] = drop-of-length-le z {i = suc (suc last)} (omega arith) in
     let two : drop last z ≡ a ∷ b ∷ [] =
     drop-cons z last 0 (omega arith) ∙ ap (λ (l : List ℕ). a ∷ l) (drop-cons z (suc last) 0 (omega arith) ∙ rw none) in
@@ -167,22 +171,12 @@ module _ (k : ℕ) (ws : List ℕ) where
       let front : take (length first) (second ++ rest) ≡ second = take-at second rest (length first) (omega arith) in
       shortOf-more k n x ws at more ∙ steps (shortOf k (n - 1)) x at ∙ rw (both, f, g′, h, front)
 
--- ---- what a step and its parts draw: p, q and r are the places after each
+-- ---- one share, and more
 pub one-place : (n at : ℕ) → n ≤ 1 → at ≡ at + shortDraws n
 one-place n at h = omega (arith, short-none n h)
 
-pub two-room : (n l at words : ℕ) → 1 < n → l ≡ n → at + shortDraws n ≤ words → at + (3 * l - 2) ≤ words
-two-room n l at words more size room = omega (arith, short-more n more)
-
-module _ (n l at p : ℕ) (e : p ≡ at + (3 * l - 2)) (size : l ≡ n) (more : 1 < n) where
-  pub first-room : (words : ℕ) → at + shortDraws n ≤ words → p + shortDraws (n - 1) ≤ words
-  first-room words room = omega (arith, short-more n more)
-
-  pub second-room : (q words : ℕ) → q ≡ p + shortDraws (n - 1) → at + shortDraws n ≤ words → q + shortDraws (n - 1) ≤ words
-  second-room q words f room = omega (arith, short-more n more)
-
-  pub step-place : (q r : ℕ) → q ≡ p + shortDraws (n - 1) → r ≡ q + shortDraws (n - 1) → r ≡ at + shortDraws n
-  step-place q r f g = omega (arith, short-more n more)
+pub many : (n : ℕ) → n ≤ largest → 1 < n → Many n
+many n room more = record { more = more; room = room; draws = short-more n more }
 
 -- ---- all shares, from a copy
 pub copied-made : (k at p : ℕ) (x a z ws : List ℕ) → a ≡ x → shortOf k (length x) a ws at ≡ (z, p)

@@ -1,11 +1,20 @@
--- What the inner functions of the short conversion make.
+-- What the inner functions of the short conversion take and make.
 -- Nobody has to believe these: the exported contract speaks of the rules alone.
-use Prim.Native.Nat.{ℕ}
+use Prim.Native.Nat.{ℕ, _+_, _-_, _*_, _≤_, _<_}
+use mathlib.Core.Path.{_≡_}
 use mathlib.Core.List.{List, [], _∷_, _++_}
 use lib.ListN.{drop}
 use Rattle.rules.specs.Supply.{Draw}
+use Rattle.rules.specs.Numbers.{largest}
 use Rattle.rules.specs.Shares.{refreshLast}
 use Rattle.rules.specs.Short.{psis, joined}
+use Rattle.rules.specs.Counts.{shortDraws}
+
+-- a share count above one, and what it draws
+pub record Many (n : ℕ) : Type 0 where
+  pub more : 1 < n
+  pub room : n ≤ largest
+  pub draws : shortDraws n ≡ 3 * n - 2 + 2 * shortDraws (n - 1)
 
 -- a list refreshed and joined
 unfoldable pub ready : List ℕ → Draw (List ℕ)

@@ -11,7 +11,7 @@ ghost use Rattle.rules.specs.Shares.{each, refreshLast};
 ghost use Rattle.rules.specs.Short.{psis, joined, summed, shortOf, toArithShort};
 ghost use Rattle.rules.specs.Counts.{shortDraws};
 ghost use Rattle.width.specs.Width.{bits};
-ghost use Rattle.short.specs.Steps.{ready, lists, twoLists};
+ghost use Rattle.short.specs.Steps.{Many, ready, lists, twoLists};
 use rules::LARGEST;
 use shares::copy;
 use shares::refresh_last;
@@ -77,8 +77,8 @@ fn spread(x: &[Word], a: &mut [Word], words: &[Word], at: usize) -> usize
 // A list refreshed, and its last entry XORed into the one before; what stands in the last place is not looked at again.
 fn refresh_joined(l: &mut [Word], words: &[Word], at: usize) -> usize
     requires { ⌜ (1 < length (now l)) × (at + (length (now l) - 1) ≤ length (now words)) ⌝ }
-    ensures { λ r. ⌜ (ready (now (l .entry)) (now (words .entry)) at ≡ (take (length (now (l .entry)) - 1) (now (l .exit)), r))
-        × (r ≡ at + (length (now (l .entry)) - 1)) ⌝ }
+    ensures { λ r. ⌜ (let m = length (now (l .entry)) - 1 in
+        (ready (now (l .entry)) (now (words .entry)) at ≡ (take m (now (l .exit)), r)) × (r ≡ at + m)) ⌝ }
 {
     let last = l.len() - 1;
     let p = refresh_last(l, words, at);
@@ -91,7 +91,8 @@ fn both_lists(a: &mut [Word], b: &mut [Word], words: &[Word], at: usize) -> usiz
     requires { ⌜ (length (now a) ≡ length (now b) + 1) × (1 < length (now b))
         × (at + 2 * (length (now b) - 1) ≤ length (now words)) ⌝ }
     ensures { λ r. ⌜ (let m = length (now (b .entry)) - 1 in
-        (lists bits (now (a .entry)) (now (words .entry)) at ≡ ((take m (drop 1 (now (a .exit))), take m (now (b .exit))), r))
+        (lists bits (now (a .entry)) (now (words .entry)) at
+        ≡ ((take m (drop 1 (now (a .exit))), take m (now (b .exit))), r))
         × (r ≡ at + 2 * m)) ⌝ }
 {
     psi_shares(a, b, words);
@@ -106,7 +107,8 @@ fn two_lists(z: &mut [Word], a: &mut [Word], words: &[Word], at: usize) -> usize
     requires { ⌜ (length (now a) ≡ length (now z) + 1) × (1 < length (now z))
         × (at + (3 * length (now z) - 2) ≤ length (now words)) ⌝ }
     ensures { λ r. ⌜ (let m = length (now (z .entry)) - 1 in
-        (twoLists bits (now (z .entry)) (now (words .entry)) at ≡ ((take m (drop 1 (now (a .exit))), take m (now (z .exit))), r))
+        (twoLists bits (now (z .entry)) (now (words .entry)) at
+        ≡ ((take m (drop 1 (now (a .exit))), take m (now (z .exit))), r))
         × (r ≡ at + (3 * length (now (z .entry)) - 2))) ⌝ }
 {
     let p = spread(z, a, words, at);
@@ -130,7 +132,8 @@ fn add_each(x: &[Word], y: &mut [Word])
 // z, which has the second list and one place more, becomes the sum: all places but the last, and the last of each.
 fn sum_lists(first: &[Word], z: &mut [Word])
     requires { ⌜ (0 < length (now first)) × (length (now z) ≡ length (now first) + 1) ⌝ }
-    ensures { λ _. ⌜ now (z .exit) ≡ summed bits (now (first .entry)) (take (length (now (first .entry))) (now (z .entry))) ⌝ }
+    ensures { λ _. ⌜ now (z .exit)
+        ≡ summed bits (now (first .entry)) (take (length (now (first .entry))) (now (z .entry))) ⌝ }
 {
     let last = first.len() - 1;
     let places = &first[0..last];
@@ -140,7 +143,7 @@ fn sum_lists(first: &[Word], z: &mut [Word])
     z[last] = first[last];
 }
 
-// n shares, in place: one stays, and more go by two lists of n − 1.
+// n shares, in place: one stays. This function and the next call each other.
 fn convert(n: usize, z: &mut [Word], words: &[Word], at: usize) -> usize
     requires { ⌜ (n ≤ largest) × (length (now z) ≡ n) × (at + shortDraws n ≤ length (now words)) ⌝ }
     ensures { λ r. ⌜ (shortOf bits n (now (z .entry)) (now (words .entry)) at ≡ (now (z .exit), r))
@@ -149,6 +152,15 @@ fn convert(n: usize, z: &mut [Word], words: &[Word], at: usize) -> usize
     if n <= 1 {
         return at;
     }
+    convert_lists(n, z, words, at)
+}
+
+// More go by two lists of n − 1.
+fn convert_lists(n: usize, z: &mut [Word], words: &[Word], at: usize) -> usize
+    requires { ⌜ Many n × (length (now z) ≡ n) × (at + shortDraws n ≤ length (now words)) ⌝ }
+    ensures { λ r. ⌜ (shortOf bits n (now (z .entry)) (now (words .entry)) at ≡ (now (z .exit), r))
+        × (r ≡ at + shortDraws n) ⌝ }
+{
     let mut room: [Word; ROOM] = [0; ROOM];
     let a = &mut room[0..n + 1];
     let p = two_lists(z, a, words, at);
