@@ -6,23 +6,23 @@ use mathlib.Core.Bool.{Bool, true, false}
 use mathlib.Core.List.{List, [], _∷_, _++_, map}
 use native.Mathlib.Nat.{add-comm, add-mod, mod-add-mod, add-mod-mod, add-mod-right, mod-eq-of-lt, sub-zero, pow-suc}
 use native.Mathlib.Omega.{arith}
-use lib.Bits.{bitXor, xor-lt, xor-zero-r, xor-self}
+use lib.Bits.{bitXor, xor-lt, xor-zero-r}
 use lib.Dec.{eqb}
 use lib.ListN.{length, getD, set, take, drop, length-set, length-append, length-drop, length-map, take-append-drop}
 use lib.Pow.{pow-pos}
-use lib.Seq.{length-take-le, drop-cons, getD-set-other, set-out}
+use lib.Seq.{length-take-le, getD-set-other}
 use borrow.Author.Tests.{eqb-true, eqb-false}
 use Rattle.words.specs.Word.{plus, minus}
 use Rattle.words.proofs.Bits.{bits, v, _⊕_}
-use Rattle.words.proofs.Words.{minus-lt, plus-minus, xor-back}
-use Rattle.rules.specs.Supply.{Place, Supply, Sharing, Rule, Shares, Words, opened, total, openedSum}
+use Rattle.words.proofs.Words.{minus-lt, plus-minus}
+use Rattle.rules.specs.Supply.{Place, Rule, Words, opened, total, openedSum}
 use Rattle.rules.specs.Numbers.{choose}
 use Rattle.rules.specs.Goubin.{psi}
 use Rattle.rules.specs.Shares.{each, pass, column, mix, refreshLast}
 use Rattle.rules.specs.Short.{psis, joined, summed, shorter, shortOf, toArithShort}
 use Rattle.rules.specs.Counts.{shortDraws}
 use Rattle.rules.proofs.Affine.{psi-affine}
-use Rattle.rules.proofs.Rule.{give, bind, counted, said}
+use Rattle.rules.proofs.Rule.{give, bind, counted}
 use Rattle.rules.proofs.Openings.{opened-append, opened-set, opened-drop, opened-past, opened-lt, total-append}
 use Rattle.rules.proofs.Openings.{total-drop, total-past, length-each}
 use Rattle.rules.proofs.Bytes.{words-join, words-zeros}

@@ -1,6 +1,6 @@
 -- Section 5, and request (iv): the short conversion, Boolean to arithmetic without a carry loop, for any number of
 -- shares of k bits.
-use Prim.Native.Nat.{ℕ, zero, suc, _-_, _%_}
+use Prim.Native.Nat.{zero, suc, _-_, _%_}
 use mathlib.Core.List.{[], _∷_, _++_, map}
 use lib.Bits.{bitXor}
 use lib.Dec.{eqb}

@@ -1,7 +1,6 @@
 -- The short conversion, from the parts that the code works out one after the other.
 use Prim.Native.Nat.{ℕ, zero, suc, _+_, _-_, _*_, _%_, _≤_, _<_}
 use mathlib.Core.Path.{_≡_, refl, sym, ap, _∙_}
-use mathlib.Core.Bool.{true, false}
 use mathlib.Core.List.{List, [], _∷_, _++_, map}
 use native.Mathlib.Nat.{sub-zero}
 use native.Mathlib.Numerals.{add-one}
@@ -12,7 +11,6 @@ use lib.Seq.{take-all, length-take-le, take-append-le, take-take, take-at, drop-
 use borrow.Author.Tests.{eq-eqb, ne-eqb}
 use Rattle.words.specs.Word.{plus}
 use Rattle.words.proofs.Stores.{set-last}
-use Rattle.rules.specs.Numbers.{largest}
 use Rattle.rules.specs.Goubin.{psi}
 use Rattle.rules.specs.Shares.{each, refreshLast}
 use Rattle.rules.specs.Short.{psis, joined, summed, shorter, shortOf, toArithShort}
@@ -175,7 +173,7 @@ module _ (k : ℕ) (ws : List ℕ) where
 pub one-place : (n at : ℕ) → n ≤ 1 → at ≡ at + shortDraws n
 one-place n at h = omega (arith, short-none n h)
 
-pub many : (n : ℕ) → n ≤ largest → 1 < n → Many n
+pub many : (n : ℕ) → n ≤ 8 → 1 < n → Many n
 many n room more = record { more = more; room = room; draws = short-more n more }
 
 -- ---- all shares, from a copy

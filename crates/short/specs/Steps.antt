@@ -5,7 +5,6 @@ use mathlib.Core.Path.{_≡_}
 use mathlib.Core.List.{List, [], _∷_, _++_}
 use lib.ListN.{drop}
 use Rattle.rules.specs.Supply.{Draw}
-use Rattle.rules.specs.Numbers.{largest}
 use Rattle.rules.specs.Shares.{refreshLast}
 use Rattle.rules.specs.Short.{psis, joined}
 use Rattle.rules.specs.Counts.{shortDraws}
@@ -13,7 +12,7 @@ use Rattle.rules.specs.Counts.{shortDraws}
 -- a share count above one, and what it draws
 pub record Many (n : ℕ) : Type 0 where
   pub more : 1 < n
-  pub room : n ≤ largest
+  pub room : n ≤ 8
   pub draws : shortDraws n ≡ 3 * n - 2 + 2 * shortDraws (n - 1)
 
 -- a list refreshed and joined

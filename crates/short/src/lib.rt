@@ -5,14 +5,12 @@ ghost use mathlib.Core.List.{[], _∷_, _++_, map};
 ghost use Prim.Native.Nat.{_+_, _-_, _*_, _≤_, _<_};
 ghost use lib.ListN.{length, take, drop};
 ghost use Rattle.words.specs.Word.{plus};
-ghost use Rattle.rules.specs.Numbers.{largest};
 ghost use Rattle.rules.specs.Goubin.{psi};
 ghost use Rattle.rules.specs.Shares.{each, refreshLast};
-ghost use Rattle.rules.specs.Short.{psis, joined, summed, shortOf, toArithShort};
+ghost use Rattle.rules.specs.Short.{psis, summed, shortOf, toArithShort};
 ghost use Rattle.rules.specs.Counts.{shortDraws};
 ghost use Rattle.width.specs.Width.{bits};
 ghost use Rattle.short.specs.Steps.{Many, ready, lists, twoLists};
-use rules::LARGEST;
 use shares::copy;
 use shares::refresh_last;
 use veil::after;
@@ -21,8 +19,8 @@ use width::Word;
 use width::minus;
 use width::plus;
 
-// Room for a step: the shares and a zero share.
-const ROOM: usize = LARGEST + 1;
+// Room for a step: at most eight shares, and a zero share.
+const ROOM: usize = 9;
 
 // ---- the entries of b
 
@@ -145,7 +143,7 @@ fn sum_lists(first: &[Word], z: &mut [Word])
 
 // n shares, in place: one stays. This function and the next call each other.
 fn convert(n: usize, z: &mut [Word], words: &[Word], at: usize) -> usize
-    requires { ⌜ (n ≤ largest) × (length (now z) ≡ n) × (at + shortDraws n ≤ length (now words)) ⌝ }
+    requires { ⌜ (n ≤ 8) × (length (now z) ≡ n) × (at + shortDraws n ≤ length (now words)) ⌝ }
     ensures { λ r. ⌜ (shortOf bits n (now (z .entry)) (now (words .entry)) at ≡ (now (z .exit), r))
         × (r ≡ at + shortDraws n) ⌝ }
 {
@@ -174,7 +172,7 @@ fn convert_lists(n: usize, z: &mut [Word], words: &[Word], at: usize) -> usize
 
 // Boolean to arithmetic, from the word at `at` on; the place after.
 pub fn to_arith_short(x: &[Word], a: &mut [Word], words: &[Word], at: usize) -> usize
-    requires { ⌜ (length (now x) ≤ largest) × (length (now a) ≡ length (now x))
+    requires { ⌜ (length (now x) ≤ 8) × (length (now a) ≡ length (now x))
         × (at + shortDraws (length (now x)) ≤ length (now words)) ⌝ }
     ensures { λ r. ⌜ toArithShort bits (now (x .entry)) (now (words .entry)) at ≡ (now (a .exit), r) ⌝ }
 {

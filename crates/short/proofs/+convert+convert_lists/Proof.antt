@@ -46,8 +46,14 @@ pub +convert+convert-lists-spec : {M : Type 1} → statement M
     (λ c. search needs)
     (λ c. search needs))
     -- convert_lists
-    (λ t. lists-lts.spec (two-lists.Asked, two-lists.Learnt, convert-below t, convert.Post, sum-lists.Asked, sum-lists.Learnt)
-    (lists-at t) lists.Post
+    (λ t. lists-lts.spec (
+      two-lists.Asked,
+      two-lists.Learnt,
+      convert-below t,
+      convert.Post,
+      sum-lists.Asked,
+      sum-lists.Learnt,
+    ) (lists-at t) lists.Post
     (λ c. search needs)
     (λ c. search needs)
     (λ c. search needs)

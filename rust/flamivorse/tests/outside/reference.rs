@@ -36,13 +36,15 @@ fn given_words(count: usize) -> Vec<u32> {
 
 #[test]
 fn shares_by_given_words() {
-    let (mut z, mut x, mut key) = ([0; 2], [0; 8], [1; 32]);
+    let (mut z, mut a, mut x, mut key) = ([0; 2], [0; 4], [0; 8], [1; 32]);
     let (one, other) = ([0x0123_4567, 0x89ab_cdef], [0xffff_ffff, 1]);
     assert!(add(2, &one, &other, &mut z, &given_words(32)).is_ok());
     assert_eq!(z, [0x2982_8944, 0xa10a_01c2]);
     assert!(a2b(8, &[1, 2, 3, 4, 5, 6, 7, 8], &mut x, &given_words(1432)).is_ok());
     assert_eq!(x[..4], [0xc3e0_9b4a, 0x320f_6d3e, 0xa06c_b9e4, 0x511f_f1f0]);
     assert_eq!(x[4..], [0xdf39_f746, 0xea30_c992, 0x3b90_7614, 0x0e05_f684]);
+    assert!(b2a_short(4, &[1, 2, 3, 4], &mut a, &given_words(40)).is_ok());
+    assert_eq!(a, [0x1af0_4248, 0x73e5_1ef4, 0xa2bb_c784, 0xce6e_d744]);
     let bytes: Vec<u8> = (0..66).collect();
     let drawn = split_key(2, &bytes, &mut key, &given_words(20_897));
     assert_eq!(drawn.map(Drawn::words), Ok(20_897));
@@ -56,7 +58,7 @@ fn shares_by_given_words() {
     );
     assert_eq!(key[8..10], [0xf6a3_c5e7, 0xa13f_61f7]);
     assert_eq!(key[10..], [0; 22]);
-    report(3, "values for given words");
+    report(4, "values for given words");
 }
 
 #[test]
