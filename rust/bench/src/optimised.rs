@@ -168,7 +168,7 @@ where
     let shares: [u32; MORE] = refresh(entries(x, 0), words);
     let later: [u32; N] = entries(&shares, 1);
     let mut b = later.map(|share| (shares[0] ^ share).wrapping_sub(share));
-    if N.is_multiple_of(2) {
+    if N & 1 == 0 {
         b[0] ^= shares[0];
     }
     let first = folded(&refresh(later, &words[N..]));
