@@ -84,11 +84,12 @@ def streaming(n, quick=0, deep=0):
 
 def conversions(n):
     arithmetic, x = Secret("x", n, by_sum=True), Secret("x", n)
-    kept = {"quick": 1000 if n < 8 else 400, "deep": 10000 if n < 8 else 4000, **sampled(n, 2039, least=4)}
+    runs = {"quick": 1000 if n < 8 else 400, "deep": 10000 if n < 8 else 4000}
+    kept = {**runs, **sampled(n, 2039, least=4)}
     return [
         call("b2a", n, (Shares(x), Room(n), FreshWords(b2a_words(n))), **kept),
         call("a2b", n, (Shares(arithmetic), Room(n), FreshWords(a2b_words(n))), **kept),
-        call("b2a_short", n, (Shares(x), Room(n), FreshWords(short_words(n))), **kept),
+        call("b2a_short", n, (Shares(x), Room(n), FreshWords(short_words(n))), **runs, **sampled(n, 2039, least=8)),
     ]
 
 

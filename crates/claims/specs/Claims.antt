@@ -240,9 +240,10 @@ module _ (k : ℕ) (x ws : List ℕ) (at : ℕ) where
   pub short-draws : toArithShort k x ws at .1 ≡ at + shortDraws (length x)
   short-draws = toArithShort-rule k x .place ws at
 
-  pub short-as-b2a : 0 < k → (p : ℕ) → length x ≡ 2 ^ p → Words k ws → Words k x → (vs : List ℕ) → Words k vs
-      → total (toArithShort k x ws at .0) % 2 ^ k ≡ total (toArith k (add k) refresh x vs at .0) % 2 ^ k
-  short-as-b2a wide p size w u vs v = short-keeps w u ∙ sym (toArith-keeps k wide p x size u vs at v)
+  pub short-as-b2a : 0 < k → (p : ℕ) → length x ≡ 2 ^ p → Words k ws → Words k x
+      → (vs : List ℕ) (from : ℕ) → Words k vs
+      → total (toArithShort k x ws at .0) % 2 ^ k ≡ total (toArith k (add k) refresh x vs from .0) % 2 ^ k
+  short-as-b2a wide p size w u vs from v = short-keeps w u ∙ sym (toArith-keeps k wide p x size u vs from v)
 
 -- Splitting a key and tagging with its shares gives the bytes of RFC 2104 over FIPS 180-4, for all keys, of up to 1,024
 -- bytes, texts and words: in one call, and streamed, from any start, feeds and finish that are accepted.
