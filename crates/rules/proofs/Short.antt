@@ -155,7 +155,7 @@ length-joined l =
     let last = length l - 1 in
     length-take-le last _ (omega (arith, length-set l (last - 1) (bitXor (getD l (last - 1) 0) (getD l last 0))))
 
-pub length-summed : (k m : ℕ) (p q : List ℕ) → length p ≡ suc m → length q ≡ suc m → length (summed k p q) ≡ suc (suc m)
+length-summed : (k m : ℕ) (p q : List ℕ) → length p ≡ suc m → length q ≡ suc m → length (summed k p q) ≡ suc (suc m)
 unfolding summed
 length-summed k m p q hp hq =
     let last = length p - 1 in
