@@ -58,7 +58,7 @@ pub fn open_sum(n: usize, shares: &[u32]) -> Opened {
     Opened { number, word }
 }
 
-/// Refreshes n Boolean shares (section 5). Tests 1, 2, 3, 5.
+/// Refreshes n Boolean shares, mixing every pair of them (request (v)). Tests 1, 2, 3, 5.
 pub fn refresh(n: usize, x: &[u32], y: &mut [u32], words: &[u32]) -> Answer {
     let tests = [(2, x.len() != n), (3, y.len() != n)];
     call(n, &tests, y, words, |supply| rules::refresh(x, supply))
@@ -88,7 +88,8 @@ pub fn a2b(n: usize, a: &[u32], x: &mut [u32], words: &[u32]) -> Answer {
     call(n, &tests, x, words, |supply| rules::a2b(a, supply))
 }
 
-/// Turns n Boolean shares into n arithmetic ones (section 5). Tests 1, 2, 3, 5.
+/// Turns n Boolean shares into n arithmetic ones (section 5, with the refresh of request (v)). Tests
+/// 1, 2, 3, 5.
 pub fn b2a(n: usize, x: &[u32], a: &mut [u32], words: &[u32]) -> Answer {
     let tests = [(2, x.len() != n), (3, a.len() != n)];
     call(n, &tests, a, words, |supply| rules::b2a(x, supply))

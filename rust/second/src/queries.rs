@@ -1,6 +1,6 @@
 //! The queries: how many words a call will draw, by the formulas of sections 2, 5 and 6 and the
-//! words of requests (i), (iii) and (iv). Each gives number 0 and the count, or the call's refusal
-//! 1, 4 or 6 and the count 0.
+//! words of requests (i), (iii), (iv) and (v). Each gives number 0 and the count, or the call's
+//! refusal 1, 4 or 6 and the count 0.
 
 use crate::numbers::{first_refusal, first_state_refusal, would_pass_the_limit};
 use crate::numbers::{Answer, State, KEY_LIMIT, MESSAGE_LIMIT};
@@ -22,6 +22,11 @@ fn count(number: u32, n: usize, formula: impl FnOnce(u64) -> u64) -> Answer {
         _ => 0,
     };
     Answer { number, drawn }
+}
+
+/// One word for each pair i < j of n shares: n(n−1)/2.
+fn pairs(n: u64) -> u64 {
+    n * (n - 1) / 2
 }
 
 /// Section 5, addition: "16n(n−1) words at k = 32".
@@ -55,9 +60,9 @@ pub fn split_words(n: usize) -> Answer {
     query(n, &[], |n| n - 1)
 }
 
-/// What `refresh` draws (section 5): n−1.
+/// What `refresh` draws (request (v)): n(n−1)/2.
 pub fn refresh_words(n: usize) -> Answer {
-    query(n, &[], |n| n - 1)
+    query(n, &[], pairs)
 }
 
 /// What `expand` draws (section 5): n.
@@ -67,7 +72,7 @@ pub fn expand_words(n: usize) -> Answer {
 
 /// What `and` draws (section 5): n(n−1)/2.
 pub fn and_words(n: usize) -> Answer {
-    query(n, &[], |n| n * (n - 1) / 2)
+    query(n, &[], pairs)
 }
 
 /// What `add` draws (section 5): 16n(n−1).
@@ -80,9 +85,10 @@ pub fn a2b_words(n: usize) -> Answer {
     query(n, &[], conversion)
 }
 
-/// What `b2a` draws (section 5): 2(n−1) + W(n) + 16n(n−1).
+/// What `b2a` draws (section 5, with the refresh of request (v)): n−1 for A1 to A(n−1), then W(n),
+/// 16n(n−1) and n(n−1)/2.
 pub fn b2a_words(n: usize) -> Answer {
-    query(n, &[], |n| 2 * (n - 1) + conversion(n) + addition(n))
+    query(n, &[], |n| n - 1 + conversion(n) + addition(n) + pairs(n))
 }
 
 /// What `b2a_short` draws (request (iv)): V(n).

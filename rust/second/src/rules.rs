@@ -1,5 +1,6 @@
-//! The rules for n shares (sections 2 and 5, and request (iv)), at k = 32. The slices lent to a
-//! rule have the lengths it asks for, and a rule gives nothing when the supply runs out under it.
+//! The rules for n shares (sections 2 and 5, and requests (iv) and (v)), at k = 32. The slices lent
+//! to a rule have the lengths it asks for, and a rule gives nothing when the supply runs out under
+//! it.
 
 use crate::supply::Supply;
 
@@ -45,13 +46,23 @@ fn double(x: &[u32]) -> Vec<u32> {
     x.iter().map(|xi| xi.wrapping_mul(2)).collect()
 }
 
-/// Section 5's refresh, as `refresh` is called and as section 5's Boolean to arithmetic uses it.
+/// Request (v): "Refresh now draws one word for each pair i < j, in the AND's order, and XORs it
+/// into both shares".
 pub(crate) fn refresh(x: &[u32], supply: &mut Supply) -> Option<Vec<u32>> {
-    refresh_with_last(x, supply)
+    let n = x.len();
+    let mut y = x.to_vec();
+    for i in 0..n {
+        for j in i + 1..n {
+            let s = supply.draw()?;
+            y[i] ^= s;
+            y[j] ^= s;
+        }
+    }
+    Some(y)
 }
 
-/// Section 5, refresh: "for i = 1 to n−1 draw s; yi = xi ⊕ s, and s is XORed into share n". It has
-/// its own name because request (iv) keeps this rule when request (v) changes `refresh`.
+/// Section 5's own refresh: "for i = 1 to n−1 draw s; yi = xi ⊕ s, and s is XORed into share n".
+/// Request (v): "The old rule stays inside (iv) under its own name."
 pub(crate) fn refresh_with_last(x: &[u32], supply: &mut Supply) -> Option<Vec<u32>> {
     let n = x.len();
     let mut y = x.to_vec();
@@ -116,7 +127,8 @@ pub(crate) fn a2b(a: &[u32], supply: &mut Supply) -> Option<Vec<u32>> {
 }
 
 /// Section 5, Boolean to arithmetic: "draw A1 … A(n−1); convert −A1, …, −A(n−1), 0 to Boolean;
-/// add to x (x is the first operand); refresh; An is the XOR of the result".
+/// add to x (x is the first operand); refresh; An is the XOR of the result". The refresh is that of
+/// request (v).
 pub(crate) fn b2a(x: &[u32], supply: &mut Supply) -> Option<Vec<u32>> {
     let mut a = Vec::new();
     let mut negated = Vec::new();
@@ -160,7 +172,8 @@ fn psi_entries(shares: &[u32]) -> Vec<u32> {
 
 /// Request (iv), the short conversion, for any n from 1: "convert the first list, then the second,
 /// by the same rule at n−1; add the first n−2 places, then append the last of the first and the
-/// last of the second". The first list is shares 2 to n+1, the second is b.
+/// last of the second". The first list is shares 2 to n+1, the second is b. Every refresh in it is by
+/// the old rule (request (v)).
 pub(crate) fn b2a_short(x: &[u32], supply: &mut Supply) -> Option<Vec<u32>> {
     let n = x.len();
     if n == 1 {

@@ -28,8 +28,8 @@ fn b2a_short_done(n: usize, x: &[u32], seed: u64) -> Vec<u32> {
     a
 }
 
-/// A list refreshed, and its last entry XORed into the one before. The last word went into both of
-/// these, and so is gone; every other word is in its own entry and in the last.
+/// A list refreshed by the old rule, and its last entry XORed into the one before. The last word went
+/// into both of these, and so is gone; every other word is in its own entry and in the last.
 fn refreshed_and_folded(list: &[u32], words: &[u32]) -> Vec<u32> {
     let kept = list.len() - 2;
     let mut shorter: Vec<u32> = (0..kept).map(|i| list[i] ^ words[i]).collect();
@@ -113,14 +113,6 @@ fn one_share_stays() {
         assert_eq!(b2a_short(1, &[word], &mut a, &[]), done(0));
         assert_eq!(a, [word]);
     }
-}
-
-#[test]
-fn p4_is_the_refresh_inside() {
-    let mut supply = Supply::new(&[0x10, 0x20]);
-    let y = rules::refresh_with_last(&[0x01, 0x02, 0x04], &mut supply);
-    assert_eq!(y, Some(vec![0x11, 0x22, 0x34]));
-    assert_eq!(supply.drawn(), 2);
 }
 
 #[test]

@@ -1,6 +1,7 @@
 //! Tests: the reference values and limits of section 7, every refusal of section 3, the order of
-//! draws, the openings against plain arithmetic and a plain SHA-1, and the long keys of request
-//! (iii). Streaming and the short conversion have tests of their own, which use the helpers here.
+//! draws, the openings against plain arithmetic and a plain SHA-1, the long keys of request (iii),
+//! and the fuller refresh of request (v). Streaming and the short conversion have tests of their
+//! own, which use the helpers here.
 
 use crate::supply::Supply;
 use crate::*;
@@ -173,14 +174,12 @@ fn p3_and() {
 }
 
 #[test]
-fn p4_refresh_rule_of_three_shares() {
+fn p4_old_refresh_rule_of_three_shares() {
+    // Request (v): "P4 is kept for the old rule".
     let mut supply = Supply::new(&[0x10, 0x20]);
-    let y = rules::refresh(&[0x01, 0x02, 0x04], &mut supply);
+    let y = rules::refresh_with_last(&[0x01, 0x02, 0x04], &mut supply);
     assert_eq!(y, Some(vec![0x11, 0x22, 0x34]));
     assert_eq!(supply.drawn(), 2);
-    let mut y = [BEFORE; 3];
-    let answer = refresh(3, &[0x01, 0x02, 0x04], &mut y, &[0x10, 0x20]);
-    assert_eq!((answer, y), (refused(1), [BEFORE; 3]));
 }
 
 #[test]
@@ -216,9 +215,23 @@ fn p8_psi() {
 }
 
 #[test]
-fn p9_p10_p11_counts() {
+fn p9_a2b_counts() {
     assert_eq!(COUNTS.map(|n| a2b_words(n).drawn), [0, 34, 264, 1432]);
-    assert_eq!(COUNTS.map(|n| b2a_words(n).drawn), [0, 68, 462, 2342]);
+}
+
+#[test]
+fn p10_b2a_counts() {
+    // As request (v) amends it.
+    let words = random_words(10, 3000);
+    for (n, drawn) in COUNTS.into_iter().zip([0, 68, 465, 2363]) {
+        let mut a = vec![BEFORE; n];
+        assert_eq!(b2a(n, &vec![1; n], &mut a, &words), done(drawn));
+        assert_eq!(b2a_words(n), done(drawn));
+    }
+}
+
+#[test]
+fn p11_hmac_counts() {
     assert_eq!(hmac_sha1_words(2, 55), done(41760));
     assert_eq!(hmac_sha1_words(2, 56), done(52200));
 }
@@ -332,14 +345,67 @@ fn one_share_is_the_plain_word() {
 }
 
 #[test]
-fn split_and_refresh_by_hand() {
+fn split_by_hand() {
     let mut shares = [BEFORE; 4];
     assert_eq!(split(4, 0x80, &mut shares, &[1, 2, 4, 99]), done(3));
     assert_eq!(shares, [1, 2, 4, 0x87]);
+}
+
+#[test]
+fn refresh_rule_of_three_shares_by_hand() {
+    // 10 for (1,2), 20 for (1,3), 40 for (2,3): 01 ⊕ 10 ⊕ 20, 02 ⊕ 10 ⊕ 40, 04 ⊕ 20 ⊕ 40.
+    let words = [0x10, 0x20, 0x40];
+    let mut supply = Supply::new(&words);
+    let y = rules::refresh(&[0x01, 0x02, 0x04], &mut supply);
+    assert_eq!(y, Some(vec![0x31, 0x52, 0x64]));
+    assert_eq!(supply.drawn(), 3);
+    let mut supply = Supply::new(&words[..2]);
+    assert_eq!(rules::refresh(&[0x01, 0x02, 0x04], &mut supply), None);
+    let mut y = [BEFORE; 3];
+    let answer = refresh(3, &[0x01, 0x02, 0x04], &mut y, &words);
+    assert_eq!((answer, y), (refused(1), [BEFORE; 3]));
+}
+
+#[test]
+fn refresh_of_four_shares_by_hand() {
+    // 10 for (1,2), 20 for (1,3), 40 for (1,4), 80 for (2,3), 100 for (2,4), 200 for (3,4).
+    let words = [0x10, 0x20, 0x40, 0x80, 0x100, 0x200, 99];
     let mut y = [BEFORE; 4];
-    let answer = refresh(4, &[1, 2, 4, 8], &mut y, &[0x10, 0x20, 0x40, 99]);
-    assert_eq!(answer, done(3));
-    assert_eq!(y, [0x11, 0x22, 0x44, 0x78]);
+    assert_eq!(refresh(4, &[1, 2, 4, 8], &mut y, &words), done(6));
+    assert_eq!(y, [0x71, 0x192, 0x2a4, 0x348]);
+}
+
+#[test]
+fn refresh_draws_in_the_order_of_the_and() {
+    // With x = 0 the AND leaves the fresh words alone, and they are what a refresh XORs in.
+    for n in COUNTS {
+        let words = random_words(1, and_words(n).drawn);
+        let x = random_words(2, n as u64);
+        let mut fresh = vec![BEFORE; n];
+        and(n, &vec![0; n], &x, &mut fresh, &words);
+        let expected: Vec<u32> = (0..n).map(|i| x[i] ^ fresh[i]).collect();
+        let mut y = vec![BEFORE; n];
+        assert_eq!(refresh(n, &x, &mut y, &words), and_words(n));
+        assert_eq!(y, expected);
+    }
+}
+
+#[test]
+fn refresh_draws_for_pairs_and_split_does_not() {
+    assert_eq!(COUNTS.map(|n| refresh_words(n).drawn), [0, 1, 6, 28]);
+    assert_eq!(COUNTS.map(|n| split_words(n).drawn), [0, 1, 3, 7]);
+}
+
+#[test]
+fn the_counts_of_the_old_refresh_are_too_few() {
+    for (n, old_refresh, old_b2a) in [(4, 3, 462), (8, 7, 2342)] {
+        let words = random_words(1, 3000);
+        let x = random_words(2, n as u64);
+        let mut y = vec![BEFORE; n];
+        assert_eq!(refresh(n, &x, &mut y, &words[..old_refresh]), refused(5));
+        assert_eq!(b2a(n, &x, &mut y, &words[..old_b2a]), refused(5));
+        assert_eq!(y, vec![BEFORE; n]);
+    }
 }
 
 #[test]
