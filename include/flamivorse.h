@@ -101,7 +101,8 @@ flamivorse_opened flamivorse_open_xor(size_t n, const uint32_t *shares, size_t s
 /* Opens arithmetic shares: hands back their sum modulo 2^32. Refuses with 1, 2, and then the word is 0. */
 flamivorse_opened flamivorse_open_sum(size_t n, const uint32_t *shares, size_t shares_len);
 
-/* Writes to y fresh Boolean shares of what x shares; draws n - 1 words. Refuses with 1, 2, 3, 5. */
+/* Writes to y fresh Boolean shares of what x shares, a word for each pair of them; draws n(n-1)/2 words.
+ * Refuses with 1, 2, 3, 5. */
 flamivorse_answer flamivorse_refresh(size_t n, const uint32_t *x, size_t x_len, uint32_t *y, size_t y_len,
                                      const uint32_t *words, size_t words_len);
 
@@ -123,7 +124,7 @@ flamivorse_answer flamivorse_add(size_t n, const uint32_t *x, size_t x_len, cons
 flamivorse_answer flamivorse_a2b(size_t n, const uint32_t *a, size_t a_len, uint32_t *x, size_t x_len,
                                  const uint32_t *words, size_t words_len);
 
-/* Boolean to arithmetic: writes to a arithmetic shares of what x shares by XOR; draws 0, 68, 462 or 2,342 words.
+/* Boolean to arithmetic: writes to a arithmetic shares of what x shares by XOR; draws 0, 68, 465 or 2,363 words.
  * Refuses with 1, 2, 3, 5. */
 flamivorse_answer flamivorse_b2a(size_t n, const uint32_t *x, size_t x_len, uint32_t *a, size_t a_len,
                                  const uint32_t *words, size_t words_len);

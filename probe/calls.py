@@ -8,8 +8,12 @@ from inputs import Secret, Share, Shares, SharesByValue, Text
 STREAMED = Result(106)  # number, count and state
 
 
+def pairs(n):
+    return n * (n - 1) // 2
+
+
 def add_words(n):
-    return 16 * n * (n - 1)
+    return 32 * pairs(n)
 
 
 def a2b_words(n):
@@ -17,7 +21,7 @@ def a2b_words(n):
 
 
 def b2a_words(n):
-    return 2 * (n - 1) + a2b_words(n) + add_words(n)
+    return n - 1 + a2b_words(n) + add_words(n) + pairs(n)
 
 
 def short_words(n):
@@ -97,9 +101,9 @@ def operations(n):
     x, y = Secret("x", n), Secret("y", n)
     return [
         call("add", n, (Shares(x), Shares(y), Room(n), FreshWords(add_words(n))), quick=2000, **sampled(n, 2039, 8)),
-        call("and", n, (Shares(x), Shares(y), Room(n), FreshWords(n * (n - 1) // 2))),
+        call("and", n, (Shares(x), Shares(y), Room(n), FreshWords(pairs(n)))),
         call("expand", n, (Shares(x), Room(2 * n), FreshWords(n))),
-        call("refresh", n, (Shares(x), Room(n), FreshWords(n - 1))),
+        call("refresh", n, (Shares(x), Room(n), FreshWords(pairs(n)))),
     ]
 
 

@@ -35,7 +35,7 @@ use Rattle.rules.specs.Stream.{Feeds, message, after, drawn, Accepted}
 use Rattle.rules.specs.Outcome.{Power, Allowed, Fit, Whole, None, Asks, Done, Given, Settles, Follows, Makes}
 use Rattle.rules.proofs.Outcomes.{untested, says-power, says-count, says-eq, says-le, says-two, exactly, follows, makes}
 use Rattle.rules.proofs.Outcomes.{makes-as, only, done-only, open-settles, record-settles, record-independent}
-use Rattle.rules.proofs.AtCalls.{some, add-count, expand-law, and-law, add-law, toBool-law, toArith-law, toArith-sums}
+use Rattle.rules.proofs.AtCalls.{some, add-count, refresh-law, expand-law, and-law, add-law, toBool-law, toArith-law, toArith-sums}
 use Rattle.rules.proofs.AtCalls.{short-law, toArith-keeps, there-back, back-there, short-count, long-count}
 use Rattle.rules.proofs.AtCalls.{splitKey-law, split-opens}
 use Rattle.rules.proofs.AtCalls.{hmacTag-law, tags, xor-off}
@@ -44,7 +44,6 @@ use Rattle.rules.proofs.AtStreams.{start-outcome, start-count, start-past, feed
 use Rattle.rules.proofs.AtStreams.{finish-outcome, finish-count, finish-past, sha1-cuts, sha1-words, streamed-tag}
 use Rattle.rules.proofs.AtStreams.{one-call-tag, sha1-tag}
 use Rattle.rules.proofs.Openings.{opened-lt}
-use Rattle.rules.proofs.Pairs.{refresh-rule}
 use Rattle.rules.proofs.Addition.{add-rule, split-rule}
 use Rattle.rules.proofs.Conversion.{draws-one, draws-more}
 use Rattle.rules.proofs.Short.{short-none, short-more, short-closed, toArithShort-rule, toArithShort-opens}
@@ -95,7 +94,8 @@ V-closed = short-closed
 -- after those drawn have no influence (`past-draws`).
 pub record CallsFollow (n : ℕ) : Type 0 where
   pub split-follows : (value : ℕ) → Follows (Allowed n) None n None (n - 1) (split n value) (splitCall n value)
-  pub refresh-follows : (x : List ℕ) → Follows (Allowed n) (length x ≡ n) n None (n - 1) (refresh x) (refreshCall n x)
+  pub refresh-follows : (x : List ℕ)
+      → Follows (Allowed n) (length x ≡ n) n None (n * (n - 1) / 2) (refresh x) (refreshCall n x)
   pub expand-follows : (x : List ℕ) → Follows (Allowed n) (length x ≡ n) (2 * n) None n (expand x) (expandCall n x)
   pub and-follows : (x y : List ℕ)
       → Follows (Allowed n) ((length x ≡ n) × (length y ≡ n)) n None (n * (n - 1) / 2) (and x y) (andCall n x y)
@@ -105,7 +105,7 @@ pub record CallsFollow (n : ℕ) : Type 0 where
   pub a2b-follows : (a : List ℕ) → Words 32 a
       → Follows (Allowed n) (length a ≡ n) n None (W n) (toBool (add 32) a) (a2bCall 32 n a)
   pub b2a-follows : (x : List ℕ) → Words 32 x
-      → Follows (Allowed n) (length x ≡ n) n None (2 * (n - 1) + W n + 16 * (n * (n - 1)))
+      → Follows (Allowed n) (length x ≡ n) n None (n - 1 + W n + 16 * (n * (n - 1)) + n * (n - 1) / 2)
       (toArith 32 (add 32) refresh x) (b2aCall 32 n x)
   pub b2a-short-follows : (x : List ℕ)
       → Follows (Power n) (length x ≡ n) n None (7 * 2 ^ (n - 1) - 3 * n - 4) (toArithShort 32 x) (b2aShortCall 32 n x)
@@ -121,7 +121,7 @@ unfolding first test call
 calls-follow n =
     record {
       split-follows = λ value. follows (says-count n) untested untested (λ c i t. split-rule n value (some n c));
-      refresh-follows = λ x. follows (says-count n) (says-eq (length x) n) untested (λ c i t. refresh-rule n x i);
+      refresh-follows = λ x. follows (says-count n) (says-eq (length x) n) untested (λ c i t. refresh-law n x i);
       expand-follows = λ x. follows (says-count n) (says-eq (length x) n) untested (λ c i t. expand-law n x i);
       and-follows = λ x y. follows (says-count n) (says-two n x y) untested (λ c i t. and-law n x y i);
       add-follows = λ x y. follows (says-count n) (says-two n x y) untested (λ c i t. add-law n x y i);
@@ -192,7 +192,7 @@ pub split-keeps : (n value : ℕ) → Makes 32 (splitCall n value) (Shares n val
 split-keeps n value = makes-as (calls-follow n .split-follows value) (λ c i t. split-rule n value (some n c))
 
 pub refresh-keeps : (n : ℕ) (x : List ℕ) → Makes 32 (refreshCall n x) (Shares n (opened x))
-refresh-keeps n x = makes-as (calls-follow n .refresh-follows x) (λ c i t. refresh-rule n x i)
+refresh-keeps n x = makes-as (calls-follow n .refresh-follows x) (λ c i t. refresh-law n x i)
 
 pub expand-keeps : (n : ℕ) (x : List ℕ) → Makes 32 (expandCall n x) (Shares (2 * n) (opened x))
 expand-keeps n x = makes-as (calls-follow n .expand-follows x) (λ c i t. expand-law n x i)

@@ -60,9 +60,9 @@ fn by_text(words: Answer, fits: bool) -> Answer
     answer(number, choose(fits, words.drawn, 0))
 }
 
-// Splitting and refresh: n − 1.
-pub fn refresh_words(n: usize) -> Answer
-    ensures { λ r. ⌜ query (test 1 (allowed n) ∷ []) (refreshDraws n) ≡ r ⌝ }
+// Splitting: n − 1.
+pub fn split_words(n: usize) -> Answer
+    ensures { λ r. ⌜ query (test 1 (allowed n) ∷ []) (n - 1) ≡ r ⌝ }
 {
     by_count(n, 1, 3, 7)
 }
@@ -82,6 +82,13 @@ pub fn and_words(n: usize) -> Answer
     by_count(n, 1, 6, 28)
 }
 
+// Refresh: the AND's pairs.
+pub fn refresh_words(n: usize) -> Answer
+    ensures { λ r. ⌜ query (test 1 (allowed n) ∷ []) (refreshDraws n) ≡ r ⌝ }
+{
+    and_words(n)
+}
+
 // Addition: an AND for each bit.
 pub fn add_words(n: usize) -> Answer
     ensures { λ r. ⌜ query (test 1 (allowed n) ∷ []) (addDraws bits n) ≡ r ⌝ }
@@ -97,11 +104,11 @@ pub fn a2b_words(n: usize) -> Answer
     by_count(n, 34, 264, 1432)
 }
 
-// Boolean to arithmetic: 2(n − 1) + W(n) + 16n(n − 1).
+// Boolean to arithmetic: n − 1 + W(n) + 16n(n − 1) + n(n − 1)/2.
 pub fn b2a_words(n: usize) -> Answer
     ensures { λ r. ⌜ query (test 1 (allowed n) ∷ []) (toArithDraws (addDraws bits) refreshDraws n) ≡ r ⌝ }
 {
-    by_count(n, 68, 462, 2342)
+    by_count(n, 68, 465, 2363)
 }
 
 // The short conversion: V(n).

@@ -20,6 +20,7 @@ use counts::hmac_words;
 use counts::key_words;
 use counts::refresh_words;
 use counts::short_words;
+use counts::split_words;
 use counts::start_words;
 use numbers::DONE;
 use numbers::answer;
@@ -87,7 +88,7 @@ pub extern "C" fn flamivorse_split(
 ) -> Answer
     ensures { λ r. ⌜ splitCall n value (now (shares .entry)) (now (words .entry)) ≡ (r, now (shares .exit)) ⌝ }
 {
-    let need = refresh_words(n).drawn;
+    let need = split_words(n).drawn;
     let number = splitting(n, shares.len(), need, words.len());
     if number != DONE {
         return answer(number, 0);
@@ -142,7 +143,7 @@ pub extern "C" fn flamivorse_refresh(n: usize, x: &[u32], y: &mut [u32], words: 
         return answer(number, 0);
     }
     shares::copy(x, y);
-    answer(DONE, shares::refresh_at(y, words, 0))
+    answer(DONE, shares::refresh_at(n, y, words, 0))
 }
 
 // 2n shares y of what the n shares x open to.
@@ -373,7 +374,7 @@ pub extern "C" fn flamivorse_hmac_sha1_finish(
 pub extern "C" fn flamivorse_split_words(n: usize) -> Answer
     ensures { λ r. ⌜ splitWords n ≡ r ⌝ }
 {
-    refresh_words(n)
+    split_words(n)
 }
 
 #[no_mangle]

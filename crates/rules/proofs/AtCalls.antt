@@ -31,7 +31,7 @@ use Rattle.rules.specs.Outcome.{Power, Allowed, None, Given, Settles, Ma
 use Rattle.rules.proofs.Loops.{length-used}
 use Rattle.rules.proofs.Rule.{said, counted}
 use Rattle.rules.proofs.Openings.{opened-lt}
-use Rattle.rules.proofs.Pairs.{and-rule}
+use Rattle.rules.proofs.Pairs.{refresh-rule, and-rule}
 use Rattle.rules.proofs.Addition.{expand-rule}
 use Rattle.rules.proofs.Conversion.{Adds, words-take, words-drop, add-adds, refresh-refreshes, toBool-rule}
 use Rattle.rules.proofs.Conversion.{toArith-rule, toArith-opens, there-and-back, back-and-there}
@@ -68,6 +68,9 @@ module _ (n l : ℕ) where
       long-draws (sha1 32) n l h ∙ ap (λ d. (l + 3) / 4 * (n - 1) + ((l + 8) / 64 + 1) * d) (compress-count n)
 
 -- ---- the rules that draw a word for each share or pair
+pub refresh-law : (n : ℕ) (x : List ℕ) → length x ≡ n → Rule (n * (n - 1) / 2) (Shares n (opened x)) (refresh x)
+refresh-law n x size = counted (refresh-rule n x size) (and-count n)
+
 pub expand-law : (n : ℕ) (x : List ℕ) → length x ≡ n → Rule n (Shares (2 * n) (opened x)) (expand x)
 expand-law n x size = said (expand-rule n x size) refl (λ z g. (g .0 ∙ omega arith, g .1))
 
@@ -120,10 +123,11 @@ module _ (n : ℕ) (count : Allowed n) where
     small = opened-lt 32 x words
 
     pub toArith-law :
-        Rule (2 * (n - 1) + toBoolDraws (addDraws 32) n + 16 * (n * (n - 1))) (λ a. length a ≡ n) (toArith 32 (add 32) refresh x)
+        Rule (n - 1 + toBoolDraws (addDraws 32) n + 16 * (n * (n - 1)) + n * (n - 1) / 2) (λ a. length a ≡ n)
+        (toArith 32 (add 32) refresh x)
     toArith-law =
         said (toArith-rule 32 (addDraws 32) (add 32) adds refreshDraws refresh refresh-refreshes p x sized small)
-        (ap (toArithDraws (addDraws 32) refreshDraws) size ∙ omega (arith, add-count n)) (λ z g. g ∙ size)
+        (ap (toArithDraws (addDraws 32) refreshDraws) size ∙ omega (arith, add-count n, and-count n)) (λ z g. g ∙ size)
 
     pub toArith-sums : (ws : List ℕ) → Words 32 ws → total (toArith 32 (add 32) refresh x ws 0 .0) % 2 ^ 32 ≡ opened x
     toArith-sums ws = toArith-keeps 32 (lit< tt) p x sized words ws 0

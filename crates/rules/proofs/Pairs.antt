@@ -8,9 +8,9 @@ use lib.ListN.{length, getD, set, drop, length-set, length-append}
 use Rattle.words.proofs.Bits.{bits, v, _⊕_, _⊗_}
 use Rattle.words.proofs.Words.{xor-assoc, xor-back}
 use Rattle.rules.specs.Supply.{Place, Sharing, Rule, Shares, opened}
-use Rattle.rules.specs.Shares.{each, along, order, column, mix, refreshLast, refresh, cross, and}
+use Rattle.rules.specs.Shares.{each, pass, along, order, column, mix, refreshLast, refresh, cross, and}
 use Rattle.rules.specs.Counts.{andDraws, refreshDraws}
-use Rattle.rules.proofs.Rule.{pass-rule, said}
+use Rattle.rules.proofs.Rule.{pass-rule, said, counted}
 use Rattle.rules.proofs.Openings.{opened-set, opened-drop, opened-past, length-each, each-at}
 
 -- ---- how many pairs, and where they are
@@ -53,10 +53,10 @@ within-order n (suc m) i h =
     (within-along n m i (i + 1) (omega arith) (omega arith))
     (within-order n m (i + 1) (omega arith))
 
-within-column : (n last m i : ℕ) → last < n → i + m ≤ n → Within n (column last m i)
+within-column : (n m i : ℕ) → i + m ≤ n - 1 → Within n (column (n - 1) m i)
 unfolding column
-within-column n last zero i h l = tt
-within-column n last (suc m) i h l = (omega arith, h, within-column n last m (i + 1) h (omega arith))
+within-column n zero i h = tt
+within-column n (suc m) i h = (omega arith, omega arith, within-column n m (i + 1) (omega arith))
 
 -- ---- two entries changed, by s and by t
 two-set : (z : List ℕ) (i j s t : ℕ) → i < length z → j < length z
@@ -68,29 +68,31 @@ two-set z i j s t h l =
       opened-set y j t (rw (length-set z i (bitXor (getD z i 0) s)) l) ∙ ap (bitXor t) (opened-set z i s h),
     )
 
--- ---- refresh
-pub refreshLast-rule : (n : ℕ) (x : List ℕ) → length x ≡ n → Rule (n - 1) (Shares n (opened x)) (refreshLast x)
-unfolding refreshLast
-refreshLast-rule zero [] h =
+-- ---- refresh, over any pairs: what goes into one share goes into another
+mix-rule : (ps : List (Place × Place)) (x : List ℕ) → Within (length x) ps
+    → Rule (length ps) (Shares (length x) (opened x)) (pass mix ps x)
+mix-rule ps x within =
     said
-    (pass-rule mix (λ ps z. z ≡ []) (λ p ps s z e. rw e) (column 0 0 0) [] refl)
-    (length-column 0 0 0)
-    (λ z e. (ap length e, ap opened e))
-refreshLast-rule zero (a ∷ x) h = absurd (omega arith)
-refreshLast-rule (suc m) x h =
-    let last = length x - 1 in
-    said
-    (pass-rule mix (λ ps z. Within (suc m) ps × Shares (suc m) (opened x) z)
+    (pass-rule mix (λ ps z. Within (length x) ps × Shares (length x) (opened x) z)
     (λ p ps s z g.
     let two = two-set z (p .0) (p .1) s s (omega arith) (omega arith) in
     (g .0 .2, (two .0 ∙ g .1 .0, two .1 ∙ xor-back s (opened z) ∙ g .1 .1)))
-    (column last last 0) x (within-column (suc m) last last 0 (omega arith) (omega arith), (h, refl)))
-    (length-column last last 0 ∙ omega arith)
+    ps x (within, (refl, refl)))
+    refl
     (λ z g. g .1)
 
 pub refresh-rule : (n : ℕ) (x : List ℕ) → length x ≡ n → Rule (refreshDraws n) (Shares n (opened x)) (refresh x)
 unfolding refresh
-refresh-rule = refreshLast-rule
+refresh-rule n x h =
+    let m = length x in
+    rw (← h) (counted (mix-rule (order m 0) x (within-order m m 0 (omega arith))) (length-order m 0))
+
+pub refreshLast-rule : (n : ℕ) (x : List ℕ) → length x ≡ n → Rule (n - 1) (Shares n (opened x)) (refreshLast x)
+unfolding refreshLast
+refreshLast-rule n x h =
+    let m = length x - 1 in
+    let within = within-column (length x) m 0 (omega arith) in
+    rw (← h) (counted (mix-rule (column m m 0) x within) (length-column m m 0))
 
 -- ---- AND
 -- the cross terms of the pairs

@@ -17,12 +17,13 @@ unfoldable pub andDraws : Count → ℕ
 andDraws zero = 0
 andDraws (suc m) = m + andDraws m
 
+-- refresh draws for the same pairs
+abbrev pub refreshDraws : Count → ℕ
+refreshDraws n = andDraws n
+
 -- k ANDs
 abbrev pub addDraws : Width → Count → ℕ
 addDraws k n = k * andDraws n
-
-abbrev pub refreshDraws : Count → ℕ
-refreshDraws n = n - 1
 
 -- W(1) = 0 and W(n) = 2W(n/2) + n + the words of one addition of n shares; d n is what an addition draws
 unfoldable pub toBoolDrawsIn : (Count → ℕ) → ℕ → Count → ℕ

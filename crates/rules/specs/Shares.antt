@@ -42,12 +42,14 @@ mix i j s z =
     let y = set z i (bitXor (getD z i 0) s) in
     set y j (bitXor (getD y j 0) s)
 
--- Refresh: for i = 1 to n−1 draw s; yi = xi ⊕ s, and s is XORed into share n
+-- Refresh, by request (v): for all pairs in order draw s; it is XORed into both shares
+unfoldable pub refresh : Sharing → Draw Sharing
+refresh x = pass mix (order (length x) 0) x
+
+-- The refresh before that request, within the short conversion: for i = 1 to n−1 draw s; yi = xi ⊕ s, and s is XORed
+-- into share n
 unfoldable pub refreshLast : Sharing → Draw Sharing
 refreshLast x = pass mix (column (length x - 1) (length x - 1) 0) x
-
-unfoldable pub refresh : Sharing → Draw Sharing
-refresh x = refreshLast x
 
 -- Expand, n to 2n: each xi in turn gives xi ⊕ s, s
 unfoldable pub expand : Sharing → Draw Sharing

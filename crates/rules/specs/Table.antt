@@ -32,7 +32,7 @@ table =
     ++ (9 ∷ [])) ∷
     -- P3: AND, k=8: (F0, 0F), (3C, 00), word 55
     row (and (0xF0 ∷ 0x0F ∷ []) (0x3C ∷ 0 ∷ []) (0x55 ∷ []) 0 .0) (0x65 ∷ 0x59 ∷ []) ∷
-    -- P4: refresh (01, 02, 04) with 10, 20
+    -- P4, of the refresh before request (v): (01, 02, 04) with 10, 20
     row (refreshLast (1 ∷ 2 ∷ 4 ∷ []) (0x10 ∷ 0x20 ∷ []) 0 .0) (0x11 ∷ 0x22 ∷ 0x34 ∷ []) ∷
     -- P5: expand (11, 22) with 01, 02
     row (expand (0x11 ∷ 0x22 ∷ []) (1 ∷ 2 ∷ []) 0 .0) (0x10 ∷ 1 ∷ 0x20 ∷ 2 ∷ []) ∷
@@ -44,13 +44,18 @@ table =
     row (psi 8 0x12 0 ∷ psi 8 0x12 0x34 ∷ []) (0x12 ∷ 0xF2 ∷ []) ∷
     -- P9: W(2), W(4), W(8), as the conversion itself draws at 32 bits
     row (map (λ n. toBool (add 32) (replicate n 0) [] 0 .1) (2 ∷ 4 ∷ 8 ∷ [])) (34 ∷ 264 ∷ 1432 ∷ []) ∷
-    -- P10: Boolean to arithmetic at 1, 2, 4 and 8 shares, as the conversion itself draws
+    -- P10, amended by (v): Boolean to arithmetic at 1, 2, 4 and 8 shares, as the conversion itself draws
     row (map (λ n. toArith 32 (add 32) refresh (replicate n 0) [] 0 .1) (1 ∷ 2 ∷ 4 ∷ 8 ∷ []))
-    (0 ∷ 68 ∷ 462 ∷ 2342 ∷ []) ∷
+    (0 ∷ 68 ∷ 465 ∷ 2363 ∷ []) ∷
     -- P11: HMAC at 2 shares, of 55 and of 56 bytes; that HMAC draws so is hmacShares-sized of proofs/Sizes.antt
     row (map (hmacDraws (sha1 32) 2) (55 ∷ 56 ∷ [])) (41760 ∷ 52200 ∷ []) ∷
     -- request (iv): V(1), V(2), V(3), V(4) and V(8), as the short conversion itself draws
     row (map (λ n. toArithShort 32 (replicate n 0) [] 0 .1) (1 ∷ 2 ∷ 3 ∷ 4 ∷ 8 ∷ [])) (0 ∷ 4 ∷ 15 ∷ 40 ∷ 868 ∷ []) ∷
+    -- request (v): refresh (01, 02, 04) with 10, 20, 40; and, where the order of the pairs shows, (01, 02, 04, 08) with
+    -- 10, 20, 40, 80, 100, 200
+    row (refresh (1 ∷ 2 ∷ 4 ∷ []) (0x10 ∷ 0x20 ∷ 0x40 ∷ []) 0 .0) (0x31 ∷ 0x52 ∷ 0x64 ∷ []) ∷
+    row (refresh (1 ∷ 2 ∷ 4 ∷ 8 ∷ []) (0x10 ∷ 0x20 ∷ 0x40 ∷ 0x80 ∷ 0x100 ∷ 0x200 ∷ []) 0 .0)
+    (0x71 ∷ 0x192 ∷ 0x2A4 ∷ 0x348 ∷ []) ∷
     []
 
 pub reference : map (λ (r : Row). r .given) table ≡ map (λ (r : Row). r .stated) table

@@ -7,7 +7,7 @@ ghost use lib.ListN.{length};
 ghost use lib.Seq.{sets};
 ghost use Rattle.rules.specs.Supply.{opened, openedSum, next, split};
 ghost use Rattle.rules.specs.Numbers.{largest};
-ghost use Rattle.rules.specs.Shares.{each, mix, refreshLast, refresh, expand};
+ghost use Rattle.rules.specs.Shares.{each, pass, along, mix, refreshLast, refresh, expand};
 ghost use Rattle.rules.specs.Counts.{refreshDraws};
 ghost use Rattle.width.specs.Width.{bits};
 use supply::draw_at;
@@ -104,13 +104,36 @@ pub fn refresh_last(y: &mut [Word], words: &[Word], at: usize) -> usize
     p
 }
 
-// Refresh in place, from the word at `at` on; the place after.
-pub fn refresh_at(y: &mut [Word], words: &[Word], at: usize) -> usize
-    requires { ⌜ (0 < length (now y)) × (at + refreshDraws (length (now y)) ≤ length (now words)) ⌝ }
-    ensures { λ r. ⌜ (refresh (now (y .entry)) (now (words .entry)) at ≡ (now (y .exit), r))
-        × (r ≡ at + refreshDraws (length (now (y .entry)))) ⌝ }
+// The pairs (i, i+1), (i, i+2), .. of the refresh of n shares.
+fn refresh_row(n: usize, i: usize, y: &mut [Word], words: &[Word], at: usize) -> usize
+    requires { ⌜ (i < n) × (length (now y) ≡ n) × (at + (n - (i + 1)) ≤ length (now words)) ⌝ }
+    ensures { λ r. ⌜ (pass mix (along (n - (i + 1)) i (i + 1)) (now (y .entry)) (now (words .entry)) at
+        ≡ (now (y .exit), r)) × (r ≡ at + (n - (i + 1))) ⌝ }
 {
-    refresh_last(y, words, at)
+    let mut p = at;
+    let mut j = i + 1;
+    while j < n {
+        let s = draw_at(words, p);
+        mix_at(i, j, s.word, y);
+        p = s.at;
+        j += 1;
+    }
+    p
+}
+
+// Refresh of n shares by all pairs, in place, from the word at `at` on; the place after.
+pub fn refresh_at(n: usize, y: &mut [Word], words: &[Word], at: usize) -> usize
+    requires { ⌜ (length (now y) ≡ n) × (at + refreshDraws n ≤ length (now words)) ⌝ }
+    ensures { λ r. ⌜ (refresh (now (y .entry)) (now (words .entry)) at ≡ (now (y .exit), r))
+        × (r ≡ at + refreshDraws n) ⌝ }
+{
+    let mut p = at;
+    let mut i = 0;
+    while i < n {
+        p = refresh_row(n, i, y, words, p);
+        i += 1;
+    }
+    p
 }
 
 // Expand, n to 2n, from the word at `at` on; the place after.

@@ -44,9 +44,23 @@ fn expand<const N: usize, const TWICE: usize>(x: [u32; N], supply: &mut Supply) 
     })
 }
 
-/// Each share but the last with the last, by the first N - 1 of these words.
+/// Each pair of shares by a word of its own.
 #[inline(always)]
 fn refresh<const N: usize>(mut shares: [u32; N], words: &[u32]) -> [u32; N] {
+    let mut place = 0;
+    for i in 0..N {
+        for j in i + 1..N {
+            shares[i] ^= words[place];
+            shares[j] ^= words[place];
+            place += 1;
+        }
+    }
+    shares
+}
+
+/// Each share but the last with the last, by the first N - 1 of these words.
+#[inline(always)]
+fn refresh_last<const N: usize>(mut shares: [u32; N], words: &[u32]) -> [u32; N] {
     for (i, word) in words[..N - 1].iter().enumerate() {
         shares[i] ^= word;
         shares[N - 1] ^= word;
@@ -54,7 +68,7 @@ fn refresh<const N: usize>(mut shares: [u32; N], words: &[u32]) -> [u32; N] {
     shares
 }
 
-/// How many words an AND draws: one for each pair of shares.
+/// How many words an AND or a refresh draws: one for each pair of shares.
 const fn pairs(shares: usize) -> usize {
     shares * (shares - 1) / 2
 }
@@ -98,7 +112,7 @@ pub trait Convert<const N: usize> {
         a[..N - 1].copy_from_slice(supply.draw(N - 1));
         let converted = Self::a2b(&a.map(u32::wrapping_neg), supply);
         let sum = add(x, &converted, supply);
-        let sum = refresh(sum, supply.draw(N - 1));
+        let sum = refresh(sum, supply.draw(pairs(N)));
         a[N - 1] = sum.iter().fold(0, |opened, share| opened ^ share);
         a
     }
@@ -165,14 +179,14 @@ fn convert_short<const LESS: usize, const N: usize, const MORE: usize>(
 where
     Optimised: ConvertShort<LESS>,
 {
-    let shares: [u32; MORE] = refresh(entries(x, 0), words);
+    let shares: [u32; MORE] = refresh_last(entries(x, 0), words);
     let later: [u32; N] = entries(&shares, 1);
     let mut b = later.map(|share| (shares[0] ^ share).wrapping_sub(share));
     if N & 1 == 0 {
         b[0] ^= shares[0];
     }
-    let first = folded(&refresh(later, &words[N..]));
-    let second = folded(&refresh(b, &words[N + LESS..]));
+    let first = folded(&refresh_last(later, &words[N..]));
+    let second = folded(&refresh_last(b, &words[N + LESS..]));
     let (left, right) = words[N + 2 * LESS..].split_at(Optimised::WORDS);
     let first: [u32; LESS] = Optimised::by_words(&first, left);
     let second: [u32; LESS] = Optimised::by_words(&second, right);

@@ -42,7 +42,7 @@ pub fn open_sum(n: usize, shares: &[u32]) -> Result<u32, Refusal> {
     cleared(|| unsafe { flamivorse_open_sum(n, shares.as_ptr(), shares.len()) }).result()
 }
 
-/// Writes to `y` fresh Boolean shares of what `x` shares.
+/// Writes to `y` fresh Boolean shares of what `x` shares: each pair of shares gets a word of its own.
 ///
 /// ```
 /// let mut y = [0; 2];

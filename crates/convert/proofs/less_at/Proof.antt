@@ -1,7 +1,7 @@
 -- the negatives converted, added to x and refreshed, each drawing from where the one before ended
 use borrow.Author.Needs.{needs}
 use native.Mathlib.Omega.{arith}
-use Rattle.rules.proofs.Allowed.{few, some}
+use Rattle.rules.proofs.Allowed.{few}
 use Rattle.convert.proofs.Parts.{less-made}
 use Rattle.convert.proofs.less_at.Statement.{statement}
 use Rattle.convert.proofs.less_at.Tie as tie
@@ -13,7 +13,7 @@ add-at-requires : tie.Need-add-at-requires
 add-at-requires c κs = (search needs, search needs, omega (arith, few), search needs)
 
 refresh-at-requires : tie.Need-refresh-at-requires
-refresh-at-requires c κs = omega (arith, some)
+refresh-at-requires c κs = search needs
 
 returns : tie.Need-returns
 returns c = search less-made

@@ -10,7 +10,7 @@ use Rattle.counts.proofs.b2a_words.Tie as tie
 returns : tie.Need-returns
 unfolding andDraws toBoolDrawsIn toBoolDraws
 returns c =
-    by-count (toArithDraws (addDraws bits) refreshDraws) (c .before .args .n) 68 462 2342 refl refl refl refl
+    by-count (toArithDraws (addDraws bits) refreshDraws) (c .before .args .n) 68 465 2363 refl refl refl refl
     ∙ c .by-count .ensures
 
 pub b2a-words-spec : {M : Type 1} → statement M

@@ -1,7 +1,9 @@
 -- refused, with what that leaves; or the rule
+use mathlib.Core.Path.{sym}
 use borrow.Author.Needs.{needs}
 use Rattle.rules.specs.Counts.{refreshDraws}
 use Rattle.rules.proofs.Calls.{refused, done}
+use Rattle.rules.proofs.Loops.{and-room}
 use Rattle.rules.proofs.Tested.{one-ready, refresh-needs, refresh-copied}
 use Rattle.flamivorse.proofs.flamivorse_refresh.Statement.{statement}
 use Rattle.flamivorse.proofs.flamivorse_refresh.Tie as tie
@@ -17,7 +19,7 @@ refresh-at-requires c κs =
     let s = c .before .before .before .before in
     let told = s .before .before .before .refresh-words .ensures in
     let p = one-ready refreshDraws (λ n. n) told (s .before .before .one-input .ensures) (s .before .if1 .left) in
-    search needs
+    (search needs, and-room _ _ _ (sym (p .0)) _ (search needs))
 
 pub flamivorse-refresh-spec : {M : Type 1} → statement M
 flamivorse-refresh-spec =

@@ -7,7 +7,7 @@ use Rattle.flamivorse.proofs.flamivorse_split.Tie as tie
 
 split-at-requires : tie.Need-split-at-requires
 split-at-requires c κs =
-    let told = c .before .before .before .refresh-words .ensures in
+    let told = c .before .before .before .split-words .ensures in
     let p = split-ready told (c .before .before .splitting .ensures) (c .before .if1 .left) in
     search needs
 

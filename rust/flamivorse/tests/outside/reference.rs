@@ -1,11 +1,11 @@
 //! The reference values of the rules that hold at 32 bits: P3, P5, P6 and P9 to P11; and those of
-//! docs/RULES.md for a supply of given words. The short conversion has its counts, and a value that the
-//! tests of `second` work out by hand.
+//! docs/RULES.md for a supply of given words. Refresh and the short conversion have their counts, and a
+//! value each that the tests of `second` work out by hand.
 
 use crate::report;
 use flamivorse::{
     a2b, a2b_words, add, and, b2a_2_record, b2a_short, b2a_short_words, b2a_words, expand,
-    hmac_sha1_words, split_key, Drawn, Refusal,
+    hmac_sha1_words, refresh, refresh_words, split_key, Drawn, Refusal,
 };
 
 #[test]
@@ -13,6 +13,16 @@ fn shares() {
     let (mut z, mut y, mut record) = ([0; 2], [0; 4], [1; 7]);
     let drawn = and(2, &[0xf0, 0x0f], &[0x3c, 0x00], &mut z, &[0x55]);
     assert_eq!((drawn.map(Drawn::words), z), (Ok(1), [0x65, 0x59]));
+    let drawn = refresh(
+        4,
+        &[1, 2, 4, 8],
+        &mut y,
+        &[0x10, 0x20, 0x40, 0x80, 0x100, 0x200],
+    );
+    assert_eq!(
+        (drawn.map(Drawn::words), y),
+        (Ok(6), [0x71, 0x192, 0x2a4, 0x348])
+    );
     let drawn = expand(2, &[0x11, 0x22], &mut y, &[0x01, 0x02]);
     assert_eq!(
         (drawn.map(Drawn::words), y),
@@ -25,7 +35,7 @@ fn shares() {
     let words = [0x01, 0x02, 0x40, 0x80];
     let drawn = b2a_short(2, &[0x13, 0x36], &mut z, &words);
     assert_eq!((drawn.map(Drawn::words), z), (Ok(4), [0x37, 0xffff_ffee]));
-    report(4, "reference values of shares");
+    report(5, "reference values of shares");
 }
 
 /// The words that docs/RULES.md lends.
@@ -66,10 +76,11 @@ fn counts() {
     let counted = |query: fn(usize) -> Result<Drawn, Refusal>| {
         [1, 2, 4, 8].map(|n| query(n).map(Drawn::words))
     };
+    assert_eq!(counted(refresh_words), [0, 1, 6, 28].map(Ok));
     assert_eq!(counted(a2b_words), [0, 34, 264, 1_432].map(Ok));
-    assert_eq!(counted(b2a_words), [0, 68, 462, 2_342].map(Ok));
+    assert_eq!(counted(b2a_words), [0, 68, 465, 2_363].map(Ok));
     assert_eq!(counted(b2a_short_words), [0, 4, 40, 868].map(Ok));
     let tags = [55, 56].map(|length| hmac_sha1_words(2, length).map(Drawn::words));
     assert_eq!(tags, [41_760, 52_200].map(Ok));
-    report(14, "reference values of counts");
+    report(18, "reference values of counts");
 }
