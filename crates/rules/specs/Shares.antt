@@ -26,15 +26,15 @@ unfoldable pub along : ℕ → Place → Place → List (Place × Place)
 along zero i j = []
 along (suc m) i j = (i, j) ∷ along m i (j + 1)
 
--- all pairs of the m shares from place i on: (i, i+1), (i, i+2), …, (i+1, i+2), …
-unfoldable pub order : ℕ → Place → List (Place × Place)
-order zero i = []
-order (suc m) i = along m i (i + 1) ++ order m (i + 1)
-
 -- m pairs (i, last), (i+1, last), …
 unfoldable pub column : Place → ℕ → Place → List (Place × Place)
 column last zero i = []
 column last (suc m) i = (i, last) ∷ column last m (i + 1)
+
+-- all pairs of the m shares from place i on: (i, i+1), (i, i+2), …, (i+1, i+2), …
+unfoldable pub order : ℕ → Place → List (Place × Place)
+order zero i = []
+order (suc m) i = along m i (i + 1) ++ order m (i + 1)
 
 -- s is XORed into shares i and j
 abbrev pub mix : Step
