@@ -15,7 +15,8 @@ use optimised::{Convert, ConvertShort, Optimised, Supply};
 use std::hint::black_box;
 use std::time::{Duration, Instant};
 
-const STEPS: [&str; 9] = [
+const STEPS: [&str; 10] = [
+    "refresh",
     "addition",
     "a2b",
     "b2a",
@@ -95,6 +96,10 @@ fn archive<const N: usize>(step: &str, lent: Lent) -> Step {
     let (x, y) = (&input[..N], &input[N..2 * N]);
     let mut z = [0; N];
     match step {
+        "refresh" => Box::new(move || {
+            flamivorse::refresh(N, black_box(x), &mut z, words).expect(DONE);
+            digest(z)
+        }),
         "addition" => Box::new(move || {
             flamivorse::add(N, black_box(x), y, &mut z, words).expect(DONE);
             digest(z)
@@ -166,6 +171,7 @@ where
     let [x, y] = shared::<N, 2>(input);
     let supply = move || Supply { words, place: 0 };
     match step {
+        "refresh" => Box::new(move || digest(optimised::refresh(black_box(&x), &mut supply()))),
         "addition" => Box::new(move || digest(optimised::add(black_box(&x), &y, &mut supply()))),
         "a2b" => Box::new(move || digest(Optimised::a2b(black_box(&x), &mut supply()))),
         "b2a" => Box::new(move || digest(Optimised::b2a(black_box(&x), &mut supply()))),
@@ -190,6 +196,7 @@ where
 /// How many words a step draws.
 fn drawn(step: &str, n: usize, bytes: usize) -> usize {
     let drawn = match step {
+        "refresh" => flamivorse::refresh_words(n),
         "addition" => flamivorse::add_words(n),
         "a2b" => flamivorse::a2b_words(n),
         "b2a" => flamivorse::b2a_words(n),

@@ -46,16 +46,18 @@ fn expand<const N: usize, const TWICE: usize>(x: [u32; N], supply: &mut Supply) 
 
 /// Each pair of shares by a word of its own.
 #[inline(always)]
-fn refresh<const N: usize>(mut shares: [u32; N], words: &[u32]) -> [u32; N] {
+pub fn refresh<const N: usize>(shares: &[u32; N], supply: &mut Supply) -> [u32; N] {
+    let words = supply.draw(pairs(N));
+    let mut fresh = *shares;
     let mut place = 0;
     for i in 0..N {
         for j in i + 1..N {
-            shares[i] ^= words[place];
-            shares[j] ^= words[place];
+            fresh[i] ^= words[place];
+            fresh[j] ^= words[place];
             place += 1;
         }
     }
-    shares
+    fresh
 }
 
 /// Each share but the last with the last, by the first N - 1 of these words.
@@ -112,7 +114,7 @@ pub trait Convert<const N: usize> {
         a[..N - 1].copy_from_slice(supply.draw(N - 1));
         let converted = Self::a2b(&a.map(u32::wrapping_neg), supply);
         let sum = add(x, &converted, supply);
-        let sum = refresh(sum, supply.draw(pairs(N)));
+        let sum = refresh(&sum, supply);
         a[N - 1] = sum.iter().fold(0, |opened, share| opened ^ share);
         a
     }
