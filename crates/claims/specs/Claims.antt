@@ -35,7 +35,8 @@ use Rattle.rules.specs.Stream.{Feeds, message, after, drawn, Accepted}
 use Rattle.rules.specs.Outcome.{Power, Allowed, Fit, Whole, None, Asks, Done, Given, Settles, Follows, Makes}
 use Rattle.rules.proofs.Outcomes.{untested, says-power, says-count, says-eq, says-le, says-two, exactly, follows, makes}
 use Rattle.rules.proofs.Outcomes.{makes-as, only, done-only, open-settles, record-settles, record-independent}
-use Rattle.rules.proofs.AtCalls.{some, add-count, refresh-law, expand-law, and-law, add-law, toBool-law, toArith-law, toArith-sums}
+use Rattle.rules.proofs.AtCalls.{some, add-count, refresh-law, expand-law, and-law, add-law}
+use Rattle.rules.proofs.AtCalls.{toBool-law, toArith-law, toArith-sums}
 use Rattle.rules.proofs.AtCalls.{short-law, toArith-keeps, there-back, back-there, short-count, long-count}
 use Rattle.rules.proofs.AtCalls.{splitKey-law, split-opens}
 use Rattle.rules.proofs.AtCalls.{hmacTag-law, tags, xor-off}

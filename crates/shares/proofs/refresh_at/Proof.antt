@@ -1,7 +1,7 @@
 -- from row i on, what is left of the walk over all pairs gives what the whole walk gives
 use borrow.Author.Needs.{needs}
 use Prim.Native.Nat.{_+_, _-_, _≤_}
-use mathlib.Core.Path.{_≡_, refl}
+use mathlib.Core.Path.{_≡_}
 use native.Mathlib.Nat.{sub-zero}
 use lib.ListN.{length}
 use Rattle.rules.specs.Shares.{pass, order, mix, refresh}
