@@ -48,6 +48,19 @@ module _ (step : Step) (ws z y : List ℕ) (at q s : ℕ) (e : Run) where
       let more : n - j ≡ suc (n - (j + 1)) = omega arith in
       rw (k, f, g) (rw more at p)
 
+-- from pair (i, j), or from row i on: what is left of the walk over n shares, run on z with the words from p on, comes to
+-- what the whole row made of z₀, or the whole walk, with those from `at` on
+abbrev pub RowFrom : Step → ℕ → ℕ → List ℕ → List ℕ → ℕ → List ℕ → ℕ → ℕ → Type 0
+RowFrom step n i z₀ ws at z p j =
+    let row = n - (i + 1) in
+    (j ≤ n) × (length z ≡ n) × (p + (n - j) ≡ at + row)
+    × (pass step (along (n - j) i j) z ws p ≡ pass step (along row i (i + 1)) z₀ ws at)
+
+abbrev pub OrderFrom : Step → ℕ → Run → List ℕ → ℕ → List ℕ → ℕ → ℕ → Type 0
+OrderFrom step n whole ws at z p i =
+    (i ≤ n) × (length z ≡ n) × (p + andDraws (n - i) ≡ at + andDraws n)
+    × (pass step (order (n - i) i) z ws p ≡ whole)
+
 -- all pairs of n shares in order, from the diagonal on
 pub order-begins : (n : ℕ) (x y z ws : List ℕ) (at : ℕ) → length x ≡ n → z ≡ each bitAnd x y
     → pass (cross x y) (order (n - 0) 0) z ws at ≡ and x y ws at

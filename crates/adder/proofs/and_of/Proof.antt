@@ -1,19 +1,14 @@
 -- from row i on, what is left of the walk over all pairs gives what the whole walk gives
 use borrow.Author.Needs.{needs}
-use Prim.Native.Nat.{_+_, _-_, _≤_}
-use mathlib.Core.Path.{_≡_}
+use Prim.Native.Nat.{_-_}
 use native.Mathlib.Nat.{sub-zero}
-use lib.ListN.{length}
-use Rattle.rules.specs.Shares.{pass, order, cross, and}
-use Rattle.rules.specs.Counts.{andDraws}
-use Rattle.rules.proofs.Loops.{order-begins, order-next, order-end, rows-room, rows-place, rows-end}
+use Rattle.rules.specs.Shares.{cross, and}
+use Rattle.rules.proofs.Loops.{OrderFrom, order-begins, order-next, order-end, rows-room, rows-place, rows-end}
 use Rattle.adder.proofs.and_of.Statement.{statement}
 use Rattle.adder.proofs.and_of.Tie as tie
 
 abbrev Inv-loop : tie.InvT-loop
-Inv-loop n x y z₀ words at p₀ i₀ z p i =
-    (i ≤ n) × (length z ≡ n) × (p + andDraws (n - i) ≡ at + andDraws n)
-    × (pass (cross x y) (order (n - i) i) z words p ≡ and x y words at)
+Inv-loop n x y z₀ words at p₀ i₀ z p i = OrderFrom (cross x y) n (and x y words at) words at z p i
 
 abbrev μ-loop : tie.MeasureT-loop
 μ-loop n x y z₀ words at p₀ i₀ z p i = n - i

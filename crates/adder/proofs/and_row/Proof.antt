@@ -1,18 +1,14 @@
 -- from pair (i, j) on, what is left of the row gives what the whole row gives
 use borrow.Author.Needs.{needs}
-use Prim.Native.Nat.{_+_, _-_, _≤_}
-use mathlib.Core.Path.{_≡_, refl}
-use lib.ListN.{length}
-use Rattle.rules.specs.Shares.{pass, along, cross}
-use Rattle.rules.proofs.Loops.{along-next, along-end}
+use Prim.Native.Nat.{_-_}
+use mathlib.Core.Path.{refl}
+use Rattle.rules.specs.Shares.{cross}
+use Rattle.rules.proofs.Loops.{RowFrom, along-next, along-end}
 use Rattle.adder.proofs.and_row.Statement.{statement}
 use Rattle.adder.proofs.and_row.Tie as tie
 
 abbrev Inv-loop : tie.InvT-loop
-Inv-loop n i x y z₀ words at p₀ j₀ z p j =
-    let row = n - (i + 1) in
-    (j ≤ n) × (length z ≡ n) × (p + (n - j) ≡ at + row)
-    × (pass (cross x y) (along (n - j) i j) z words p ≡ pass (cross x y) (along row i (i + 1)) z₀ words at)
+Inv-loop n i x y z₀ words at p₀ j₀ z p j = RowFrom (cross x y) n i z₀ words at z p j
 
 abbrev μ-loop : tie.MeasureT-loop
 μ-loop n i x y z₀ words at p₀ j₀ z p j = n - j

@@ -1,19 +1,14 @@
 -- from row i on, what is left of the walk over all pairs gives what the whole walk gives
 use borrow.Author.Needs.{needs}
-use Prim.Native.Nat.{_+_, _-_, _≤_}
-use mathlib.Core.Path.{_≡_}
+use Prim.Native.Nat.{_-_}
 use native.Mathlib.Nat.{sub-zero}
-use lib.ListN.{length}
-use Rattle.rules.specs.Shares.{pass, order, mix, refresh}
-use Rattle.rules.specs.Counts.{andDraws}
-use Rattle.rules.proofs.Loops.{order-next, order-end, rows-room, rows-place, rows-end}
+use Rattle.rules.specs.Shares.{mix, refresh}
+use Rattle.rules.proofs.Loops.{OrderFrom, order-next, order-end, rows-room, rows-place, rows-end}
 use Rattle.shares.proofs.refresh_at.Statement.{statement}
 use Rattle.shares.proofs.refresh_at.Tie as tie
 
 abbrev Inv-loop : tie.InvT-loop
-Inv-loop n y₀ words at p₀ i₀ y p i =
-    (i ≤ n) × (length y ≡ n) × (p + andDraws (n - i) ≡ at + andDraws n)
-    × (pass mix (order (n - i) i) y words p ≡ refresh y₀ words at)
+Inv-loop n y₀ words at p₀ i₀ y p i = OrderFrom mix n (refresh y₀ words at) words at y p i
 
 abbrev μ-loop : tie.MeasureT-loop
 μ-loop n y₀ words at p₀ i₀ y p i = n - i

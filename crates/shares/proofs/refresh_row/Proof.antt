@@ -1,18 +1,14 @@
 -- from pair (i, j) on, what is left of the row gives what the whole row gives
 use borrow.Author.Needs.{needs}
-use Prim.Native.Nat.{_+_, _-_, _≤_}
-use mathlib.Core.Path.{_≡_, refl}
-use lib.ListN.{length}
-use Rattle.rules.specs.Shares.{pass, along, mix}
-use Rattle.rules.proofs.Loops.{along-next, along-end}
+use Prim.Native.Nat.{_-_}
+use mathlib.Core.Path.{refl}
+use Rattle.rules.specs.Shares.{mix}
+use Rattle.rules.proofs.Loops.{RowFrom, along-next, along-end}
 use Rattle.shares.proofs.refresh_row.Statement.{statement}
 use Rattle.shares.proofs.refresh_row.Tie as tie
 
 abbrev Inv-loop : tie.InvT-loop
-Inv-loop n i y₀ words at p₀ j₀ y p j =
-    let row = n - (i + 1) in
-    (j ≤ n) × (length y ≡ n) × (p + (n - j) ≡ at + row)
-    × (pass mix (along (n - j) i j) y words p ≡ pass mix (along row i (i + 1)) y₀ words at)
+Inv-loop n i y₀ words at p₀ j₀ y p j = RowFrom mix n i y₀ words at y p j
 
 abbrev μ-loop : tie.MeasureT-loop
 μ-loop n i y₀ words at p₀ j₀ y p j = n - j
