@@ -35,7 +35,7 @@ use Rattle.rules.specs.Stream.{Feeds, message, after, drawn, Accepted}
 use Rattle.rules.specs.Outcome.{Power, Allowed, Fit, Whole, None, Asks, Done, Given, Settles, Follows, Makes}
 use Rattle.rules.proofs.Outcomes.{untested, says-power, says-count, says-eq, says-le, says-two, exactly, follows, makes}
 use Rattle.rules.proofs.Outcomes.{makes-as, only, done-only, open-settles, record-settles, record-independent}
-use Rattle.rules.proofs.AtCalls.{some, add-count, refresh-law, expand-law, and-law, add-law}
+use Rattle.rules.proofs.AtCalls.{some, add-count, toBool-count, refresh-law, expand-law, and-law, add-law}
 use Rattle.rules.proofs.AtCalls.{toBool-law, toArith-law, toArith-sums}
 use Rattle.rules.proofs.AtCalls.{short-law, toArith-keeps, there-back, back-there, short-count, long-count}
 use Rattle.rules.proofs.AtCalls.{splitKey-law, split-opens}
@@ -46,7 +46,7 @@ use Rattle.rules.proofs.AtStreams.{finish-outcome, finish-count, finish-past, s
 use Rattle.rules.proofs.AtStreams.{one-call-tag, sha1-tag}
 use Rattle.rules.proofs.Openings.{opened-lt}
 use Rattle.rules.proofs.Addition.{add-rule, split-rule}
-use Rattle.rules.proofs.Conversion.{draws-one, draws-more}
+use Rattle.rules.proofs.Conversion.{draws-one, draws-power, draws-other}
 use Rattle.rules.proofs.Short.{short-none, short-more, short-closed, toArithShort-rule, toArithShort-opens}
 use Rattle.rules.proofs.Ends.{b2a-length, a2b-length, b2a-ends, a2b-ends}
 use Rattle.rules.proofs.Demand3.{b2a-independent, a2b-independent}
@@ -58,15 +58,24 @@ pub given-exactly : {Count Input Output Text Supply : Type 0} {i j : ℕ}
     → Given Count Input Output Text Supply i → Given Count Input Output Text Supply j → i ≡ j
 given-exactly = exactly
 
--- W(n), the words of arithmetic to Boolean: W(1) = 0 and W(n) = 2W(n/2) + n + 16n(n−1).
+-- W(n), the words of arithmetic to Boolean: W(1) = 0; W(n) = 2W(n/2) + n + 16n(n−1) where n is a power of two, which is
+-- 32n(n−1) − 15pn for n = 2^p; W(n) = W(⌊n/2⌋) + W(⌈n/2⌉) + 2(n−1) + 16n(n−1) for any other n.
 abbrev pub W : ℕ → ℕ
 W n = toBoolDraws (addDraws 32) n
 
 pub W-one : W 1 ≡ 0
 W-one = draws-one (addDraws 32) 1 (lit≤ tt)
 
-pub W-more : (n : ℕ) → 1 < n → W n ≡ 2 * W (n / 2) + n + 16 * (n * (n - 1))
-W-more n h = draws-more (addDraws 32) n h ∙ ap (λ d. 2 * W (n / 2) + n + d) (add-count n)
+pub W-power : (n p : ℕ) → 1 < n → n ≡ 2 ^ p → W n ≡ 2 * W (n / 2) + n + 16 * (n * (n - 1))
+W-power n p h e = draws-power (addDraws 32) n p h e ∙ ap (λ d. 2 * W (n / 2) + n + d) (add-count n)
+
+pub W-closed : (p : ℕ) → (let n = 2 ^ p in W n ≡ 32 * (n * (n - 1)) - 15 * (p * n))
+W-closed = toBool-count
+
+pub W-other : (n : ℕ) → 1 < n → ((p : ℕ) → n ≡ 2 ^ p → ⊥)
+    → W n ≡ W (n / 2) + W (n - n / 2) + 2 * (n - 1) + 16 * (n * (n - 1))
+W-other n h none =
+    draws-other (addDraws 32) n h none ∙ ap (λ d. W (n / 2) + W (n - n / 2) + 2 * (n - 1) + d) (add-count n)
 
 -- D(n, l), the words of splitting a key of l bytes: 16(n−1) up to 64 bytes; over that ceil(l/4)(n−1), and then those of
 -- floor((l + 8)/64) + 1 compressions.
@@ -114,7 +123,7 @@ pub record CallsFollow (n : ℕ) : Type 0 where
       → Follows (Allowed n) None (16 * n) (length key ≤ 1024) (D n (length key))
       (splitKey (sha1 32) n key) (splitKeyCall 32 n key)
   pub hmac-follows : (key text : List ℕ)
-      → Follows (Allowed n) (length key ≡ 16 * n) 20 (length text ≤ 4096)
+      → Follows (Allowed n) (length key ≡ 16 * n) 20 (length text ≤ 65536)
       (((length text + 8) / 64 + 4) * (5220 * (n * (n - 1)))) (hmacTag (sha1 32) n key text) (hmacCall 32 n key text)
 
 pub calls-follow : (n : ℕ) → CallsFollow n
@@ -132,7 +141,7 @@ calls-follow n =
       split-key-follows = λ key.
           follows (says-count n) untested (says-le (length key) 1024) (λ c i t. splitKey-law n c key);
       hmac-follows = λ key text.
-          follows (says-count n) (says-eq (length key) (16 * n)) (says-le (length text) 4096)
+          follows (says-count n) (says-eq (length key) (16 * n)) (says-le (length text) 65536)
           (λ c i t. hmacTag-law n c key text i);
     }
 
@@ -164,28 +173,28 @@ record-lengths k x r G h = (b2a-length k x r G, a2b-length k x r G h)
 
 -- A compression: refused, the chain record exactly as given; accepted, the new chain with 0 after 5n words, and
 -- 5,220·n(n−1) words drawn. What the record has after 5n words, and the supply after those drawn, is not looked at.
--- (That a chain has 40 words is its type's, `[u32; 40]`.)
-module _ (n : ℕ) (chain : Chain) (forty : length (chain .shares) ≡ 40) (block ws : List ℕ) where
+-- (That a chain has 80 words is its type's, `[u32; 80]`.)
+module _ (n : ℕ) (chain : Chain) (whole : length (chain .shares) ≡ 80) (block ws : List ℕ) where
   abbrev o : Compressed
   o = compressCall 32 n chain block ws
 
   pub compress-settles : (let made = compressShares 32 (add 32) n (used n (chain .shares)) block ws 0 in
       Settles {A = Chain × ℕ} (Given (Allowed n) (length block ≡ 16 * n) None None (5220 * (n * (n - 1)) ≤ length ws))
-      (o .number) (record { shares = made .0 ++ replicate (40 - 5 * n) 0 }, made .1) (chain, 0) (o .chain, o .drawn))
-  compress-settles = compress-outcome n chain block forty ws
+      (o .number) (record { shares = made .0 ++ replicate (80 - 5 * n) 0 }, made .1) (chain, 0) (o .chain, o .drawn))
+  compress-settles = compress-outcome n chain block whole ws
 
   pub compress-draws : o .number ≡ 0 → o .drawn ≡ 5220 * (n * (n - 1))
-  compress-draws = compress-drawn n chain block forty ws
+  compress-draws = compress-drawn n chain block whole ws
 
   pub compress-past-draws : o .number ≡ 0 → (other : Chain) (vs : List ℕ)
       → take (5 * n) (chain .shares) ≡ take (5 * n) (other .shares)
       → take (5220 * (n * (n - 1))) ws ≡ take (5220 * (n * (n - 1))) vs → o ≡ compressCall 32 n other block vs
-  compress-past-draws = compress-past n chain block forty ws
+  compress-past-draws = compress-past n chain block whole ws
 
   -- Demand 2: it opens to FIPS 180-4's compression of what the chain and the block open to.
   pub compress-is-fips180 : o .number ≡ 0 → Words 32 (chain .shares) → Words 32 block
       → openWords n 5 (o .chain .shares) ≡ compress 32 (openWords n 5 (chain .shares)) (openWords n 16 block)
-  compress-is-fips180 = compress-opens-to n chain block forty ws
+  compress-is-fips180 = compress-opens-to n chain block whole ws
 
 -- ==== Demand 2: right whatever the random words are
 -- Splitting, refresh and expand keep the secret; AND opens to the AND, addition to the sum modulo 2^32.
@@ -241,10 +250,10 @@ module _ (k : ℕ) (x ws : List ℕ) (at : ℕ) where
   pub short-draws : toArithShort k x ws at .1 ≡ at + shortDraws (length x)
   short-draws = toArithShort-rule k x .place ws at
 
-  pub short-as-b2a : 0 < k → (p : ℕ) → length x ≡ 2 ^ p → Words k ws → Words k x
+  pub short-as-b2a : 0 < k → 0 < length x → Words k ws → Words k x
       → (vs : List ℕ) (from : ℕ) → Words k vs
       → total (toArithShort k x ws at .0) % 2 ^ k ≡ total (toArith k (add k) refresh x vs from .0) % 2 ^ k
-  short-as-b2a wide p size w u vs from v = short-keeps w u ∙ sym (toArith-keeps k wide p x size u vs from v)
+  short-as-b2a wide some w u vs from v = short-keeps w u ∙ sym (toArith-keeps k wide x some u vs from v)
 
 -- Splitting a key and tagging with its shares gives the bytes of RFC 2104 over FIPS 180-4, for all keys, of up to 1,024
 -- bytes, texts and words: in one call, and streamed, from any start, feeds and finish that are accepted.
@@ -313,7 +322,7 @@ module _ (n : ℕ) (key ws : List ℕ) where
       ≡ startCall (sha1 32) n key vs
   start-past-draws = start-past n key ws
 
--- Feed and finish, on any state at all. (That its chains have 40 words and its tail 64 bytes is its type's.) Number 6
+-- Feed and finish, on any state at all. (That its chains have 80 words and its tail 64 bytes is its type's.) Number 6
 -- comes before all others. Refused, the state is as given. What is not read of the state, and the supply after the
 -- words drawn, has no influence.
 module _ (s : State) (whole : Whole s) (ws : List ℕ) where
@@ -326,7 +335,7 @@ module _ (s : State) (whole : Whole s) (ws : List ℕ) where
     feedsDraw = (s .bytes % 64 + length piece) / 64 * (5220 * (s .n * (s .n - 1)))
 
     pub feed-settles : Settles {A = State × ℕ}
-        (Asks (Fit s) 6 (Asks (s .bytes + length piece ≤ 4096) 4 (Asks (feedsDraw ≤ length ws) 5 Done)))
+        (Asks (Fit s) 6 (Asks (s .bytes + length piece ≤ 65536) 4 (Asks (feedsDraw ≤ length ws) 5 Done)))
         (fed .number) (feed (sha1 32) s piece ws 0) (s, 0) (fed .state, fed .drawn)
     feed-settles = feed-outcome s whole ws piece
 

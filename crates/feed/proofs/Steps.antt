@@ -13,7 +13,7 @@ use Rattle.rules.specs.declared.State.{State}
 use Rattle.rules.specs.Numbers.{longestMessage}
 use Rattle.rules.specs.Hash.{wordsOf, ending, filled}
 use Rattle.rules.specs.Standard.{SHA1}
-use Rattle.rules.specs.Sha1.{publics, used}
+use Rattle.rules.specs.Sha1.{publics, chainRoom, used}
 use Rattle.rules.specs.Stream.{state, fullBlocks, feed}
 use Rattle.rules.proofs.Loops.{Run}
 use Rattle.rules.proofs.Bytes.{length-words, words-front}
@@ -123,8 +123,8 @@ module _ (s : State) (piece ws tail rest : List ℕ) (at p : ℕ) (inner : Chain
         n = s .n;
         bytes = s .bytes + length piece;
         finished = 0;
-        inner = record { shares = filled 40 (used (s .n) (inner .shares)) };
-        outer = record { shares = filled 40 (used (s .n) (s .outer .shares)) };
+        inner = record { shares = filled chainRoom (used (s .n) (inner .shares)) };
+        outer = record { shares = filled chainRoom (used (s .n) (s .outer .shares)) };
         tail = rest ++ drop {A = ℕ} (left - 0) (replicate 64 0);
       }
       → feed hash s piece ws at ≡ (r, p)

@@ -15,7 +15,7 @@ use lib.Seq.{set-append-left}
 use Rattle.rules.specs.Numbers.{largest}
 use Rattle.rules.specs.Shares.{each}
 use Rattle.rules.specs.Standard.{H0}
-use Rattle.rules.specs.Sha1.{public, publics, used, chainOf}
+use Rattle.rules.specs.Sha1.{public, publics, chainRoom, used, chainOf}
 use Rattle.rules.specs.Hmac.{marked}
 use Rattle.rules.proofs.Openings.{each-append}
 use Rattle.rules.proofs.Keys.{each-zeros}
@@ -131,4 +131,4 @@ start-made n h l e = rw (e, zeros-after (5 * largest) (5 * n) (omega arith))
 
 pub start-used : (n : ℕ) → 0 < n → used n (chainOf n (publics n H0)) ≡ publics n H0
 unfolding used chainOf
-start-used n h = take-at (publics n H0) (replicate (40 - 5 * n) 0) (5 * n) (length-publics n H0 h)
+start-used n h = take-at (publics n H0) (replicate (chainRoom - 5 * n) 0) (5 * n) (length-publics n H0 h)

@@ -12,7 +12,7 @@ use Rattle.words.proofs.Stores.{lent-zeros}
 use Rattle.rules.specs.Numbers.{largest, longestKey}
 use Rattle.rules.specs.Hash.{Hash, ending, filled}
 use Rattle.rules.specs.Standard.{SHA1, H0}
-use Rattle.rules.specs.Sha1.{publics, used, chainOf}
+use Rattle.rules.specs.Sha1.{publics, chainRoom, used, chainOf}
 use Rattle.rules.specs.Hmac.{splits, keyWords, marked, blocks, hashKey, splitKey}
 use Rattle.rules.specs.Counts.{keyDraws}
 use Rattle.rules.proofs.Loops.{Run, length-used, chain-length}
@@ -66,7 +66,7 @@ module _ (n : ℕ) (some : 0 < n) (bytes : ℕ) (lasts ws : List ℕ) (at j : �
       ∙ each-take bitXor (16 * n) (drop (j * (16 * n)) whole) (drop (j * (16 * n)) (publics n pads))))
 
 -- ---- the digest's words, then zero shares
-pub digest-made : (n m : ℕ) (chain zs d : List ℕ) → n ≤ largest → length (map (λ (v : ℕ). v) chain) ≡ 40 → m ≡ 16 * n
+pub digest-made : (n m : ℕ) (chain zs d : List ℕ) → n ≤ largest → length (map (λ (v : ℕ). v) chain) ≡ chainRoom → m ≡ 16 * n
     → zs ≡ replicate m 0 → d ≡ take (5 * n - 0) chain → d ++ drop (5 * n - 0) zs ≡ filled (16 * n) (used n chain)
 digest-made n m chain zs d few whole size e f =
     let long : length (used n chain) ≡ 5 * n = length-used n chain few (chain-length chain whole) in

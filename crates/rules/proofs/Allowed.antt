@@ -1,11 +1,11 @@
 -- The share counts that calls take, case by case.
-use Prim.Native.Nat.{ℕ, _^_, _≤_, _<_}
+use Prim.Native.Nat.{ℕ, _≤_, _<_}
 use mathlib.Core.Path.{_≡_, refl, sym, subst}
 use mathlib.Core.Bool.{Bool, true, false}
 use native.Mathlib.Omega.{arith}
-use lib.Dec.{eqb}
-use borrow.Author.Tests.{eqb-true}
-use Rattle.rules.specs.Numbers.{largest, either, power, allowed}
+use lib.Dec.{eqb, leb}
+use borrow.Author.Tests.{eqb-true, leb-true}
+use Rattle.rules.specs.Numbers.{largest, either, both, power, allowed}
 
 pub data Taken : ℕ → Type 0 where
   one : Taken 1
@@ -24,8 +24,12 @@ counted n h = go (eqb n 1) (eqb n 2) (eqb n 4) (eqb n 8) refl refl refl refl h
     go false false false true ea eb ec ed q = subst Taken (sym (eqb-true n 8 ed)) eight
     go false false false false ea eb ec ed q = let z : _≡_ {A = ℕ} 0 1 = cc in absurd (omega arith)
 
-pub within : (n : ℕ) → allowed n ≡ true → (0 < n) × (n ≤ largest)
-within n h = go (counted n h)
+pub both-true : (a b : Bool) → both a b ≡ true → (a ≡ true) × (b ≡ true)
+both-true true b h = (refl, h)
+both-true false b h = let z : _≡_ {A = ℕ} 0 1 = cc in absurd (omega arith)
+
+pub power-within : (n : ℕ) → power n ≡ true → (0 < n) × (n ≤ 8)
+power-within n h = go (counted n h)
   where
     go : {n : ℕ} → Taken n → (0 < n) × (n ≤ 8)
     go one = omega arith
@@ -33,18 +37,13 @@ within n h = go (counted n h)
     go four = omega arith
     go eight = omega arith
 
+pub within : (n : ℕ) → allowed n ≡ true → (0 < n) × (n ≤ largest)
+unfolding allowed
+within n h = let p = both-true (leb 1 n) (leb n largest) h in (leb-true 1 n (p .0), leb-true n largest (p .1))
+
 -- each half by itself: listed, omega uses it of every count that it meets
 pub some : (n : ℕ) → allowed n ≡ true → 0 < n
 some n h = within n h .0
 
 pub few : (n : ℕ) → allowed n ≡ true → n ≤ largest
 few n h = within n h .1
-
-pub power-of : (n : ℕ) → power n ≡ true → (p : ℕ) × (n ≡ 2 ^ p)
-power-of n h = go (counted n h)
-  where
-    go : {n : ℕ} → Taken n → (p : ℕ) × (n ≡ 2 ^ p)
-    go one = (0, refl)
-    go two = (1, refl)
-    go four = (2, refl)
-    go eight = (3, refl)

@@ -1,10 +1,10 @@
--- The rules where a call's tests are passed, of 1, 2, 4 or 8 shares of 32 bits, with their counts in closed form; and what
+-- The rules where a call's tests are passed, of 1 to 16 shares of 32 bits, with their counts in closed form; and what
 -- a compression comes to. crates/claims takes them to the calls.
 use Prim.Native.Nat.{ℕ, zero, suc, _+_, _-_, _*_, _/_, _%_, _^_, _≤_, _<_}
 use mathlib.Core.Path.{_≡_, refl, sym, ap, _∙_}
 use mathlib.Core.Bool.{true}
 use mathlib.Core.List.{List, _∷_, _++_}
-use native.Mathlib.Nat.{suc-mul}
+use native.Mathlib.Nat.{suc-mul, mul-assoc, pow-suc}
 use native.Mathlib.Omega.{arith}
 use lib.Bits.{bitXor, bitAnd, xor-comm}
 use lib.Dec.{lit<, lit≤}
@@ -22,7 +22,7 @@ use Rattle.rules.specs.Convert.{toBool, toArith}
 use Rattle.rules.specs.Short.{toArithShort}
 use Rattle.rules.specs.Hash.{wordsOf, keyBlock, hmac}
 use Rattle.rules.specs.Standard.{SHA1, compress as compressOf}
-use Rattle.rules.specs.Sha1.{openWords, compress, used, chainOf}
+use Rattle.rules.specs.Sha1.{openWords, compress, chainRoom, used, chainOf}
 use Rattle.rules.specs.Hmac.{splitKey, hmacTag}
 use Rattle.rules.specs.Counts.{andDraws, addDraws, refreshDraws, toBoolDraws, toArithDraws, shortDraws}
 use Rattle.rules.specs.Counts.{keyDraws, sha1}
@@ -34,9 +34,9 @@ use Rattle.rules.proofs.Openings.{opened-lt}
 use Rattle.rules.proofs.Pairs.{refresh-rule, and-rule}
 use Rattle.rules.proofs.Addition.{expand-rule}
 use Rattle.rules.proofs.Conversion.{Adds, words-take, words-drop, add-adds, refresh-refreshes, toBool-rule}
-use Rattle.rules.proofs.Conversion.{toArith-rule, toArith-opens, there-and-back, back-and-there}
+use Rattle.rules.proofs.Conversion.{draws-one, draws-power, toArith-rule, toArith-opens, there-and-back, back-and-there}
 use Rattle.rules.proofs.Short.{toArithShort-rule, short-closed}
-use Rattle.rules.proofs.Allowed.{within, power-of}
+use Rattle.rules.proofs.Allowed.{power-within}
 use Rattle.rules.proofs.MaskedHmac.{Keeps}
 use Rattle.rules.proofs.Keys.{short-draws, long-draws}
 use Rattle.rules.proofs.Sizes.{add-sizes, compress-sized, hmacTag-sized, splitKey-sized, sha1-size}
@@ -57,6 +57,24 @@ pub add-count : (n : ℕ) → addDraws 32 n ≡ 16 * (n * (n - 1))
 unfolding andDraws
 add-count zero = refl
 add-count (suc m) = let e : suc m - 1 ≡ m = omega arith in rw e (omega (arith, andDraws-twice m))
+
+-- W of n = 2^p shares: 32n(n−1) − 15pn
+and-double : (m : ℕ) → andDraws (m * 2) ≡ 4 * andDraws m + m
+unfolding andDraws
+and-double zero = refl
+and-double (suc m) = let e : suc m * 2 ≡ suc (suc (m * 2)) = omega arith in rw e (omega (arith, and-double m))
+
+toBool-sum : (p : ℕ) → toBoolDraws (addDraws 32) (2 ^ p) + 15 * (p * 2 ^ p) ≡ 2 * addDraws 32 (2 ^ p)
+unfolding andDraws
+toBool-sum zero = omega (arith, draws-one (addDraws 32) 1 (lit≤ tt))
+toBool-sum (suc p) =
+    let m = 2 ^ p in
+    let even : m * 2 / 2 ≡ m = omega arith in
+    let halves = draws-power (addDraws 32) (m * 2) (suc p) (omega (arith, pow-pos p)) (sym (pow-suc 2 p)) in
+    rw pow-suc (omega (arith, rw even at halves, toBool-sum p, and-double m, suc-mul p (m * 2), mul-assoc p m 2))
+
+pub toBool-count : (p : ℕ) → (let n = 2 ^ p in toBoolDraws (addDraws 32) n ≡ 32 * (n * (n - 1)) - 15 * (p * n))
+toBool-count p = omega (arith, toBool-sum p, add-count (2 ^ p))
 
 -- a key of l bytes, split and, where it is over 64, hashed
 module _ (n l : ℕ) where
@@ -84,39 +102,32 @@ module _ (n : ℕ) (x y : List ℕ) (sizes : (length x ≡ n) × (length y ≡ n
 adds : Adds 32 (addDraws 32) (add 32)
 adds = add-adds 32 (lit< tt)
 
--- Boolean to arithmetic at any width, of 2^p shares
-pub toArith-keeps : (k : ℕ) → 0 < k → (p : ℕ) (x : List ℕ) → length x ≡ 2 ^ p → Words k x
+-- Boolean to arithmetic at any width
+pub toArith-keeps : (k : ℕ) → 0 < k → (x : List ℕ) → 0 < length x → Words k x
     → (ws : List ℕ) (at : ℕ) → Words k ws → total (toArith k (add k) refresh x ws at .0) % 2 ^ k ≡ opened x
-toArith-keeps k wide p x size u ws at =
-    toArith-opens k (addDraws k) (add k) (add-adds k wide) refreshDraws refresh refresh-refreshes p x size
+toArith-keeps k wide x some u ws at =
+    toArith-opens k (addDraws k) (add k) (add-adds k wide) refreshDraws refresh refresh-refreshes x some
     (opened-lt k x u) ws at
 
 -- the short conversion
 pub short-law : (n : ℕ) → Power n → (x : List ℕ) → length x ≡ n
     → Rule (7 * 2 ^ (n - 1) - 3 * n - 4) (λ a. length a ≡ n) (toArithShort 32 x)
 short-law n count x size =
-    said (toArithShort-rule 32 x) (ap shortDraws size ∙ short-closed n (within n (passed (says-power n) count) .0))
+    said (toArithShort-rule 32 x) (ap shortDraws size ∙ short-closed n (power-within n (passed (says-power n) count) .0))
     (λ z g. g ∙ size)
 
 module _ (n : ℕ) (count : Allowed n) where
-  ok : allowed n ≡ true
-  ok = passed (says-count n) count
-
   pub some : 0 < n
-  some = within n ok .0
+  some = count .0
 
   -- ---- the conversions
   module _ (x : List ℕ) (size : length x ≡ n) (words : Words 32 x) where
-    p : ℕ
-    p = power-of n ok .0
-
-    sized : length x ≡ 2 ^ p
-    unfolding p
-    sized = size ∙ power-of n ok .1
+    sized : 0 < length x
+    sized = rw size some
 
     pub toBool-law : Rule (toBoolDraws (addDraws 32) n) (Shares n (total x % 2 ^ 32)) (toBool (add 32) x)
     toBool-law =
-        said (toBool-rule 32 (addDraws 32) (add 32) adds p x sized words)
+        said (toBool-rule 32 (addDraws 32) (add 32) adds x sized words)
         (ap (toBoolDraws (addDraws 32)) size) (λ z g. (g .0 ∙ size, g .1))
 
     small : opened x < 2 ^ 32
@@ -126,11 +137,11 @@ module _ (n : ℕ) (count : Allowed n) where
         Rule (n - 1 + toBoolDraws (addDraws 32) n + 16 * (n * (n - 1)) + n * (n - 1) / 2) (λ a. length a ≡ n)
         (toArith 32 (add 32) refresh x)
     toArith-law =
-        said (toArith-rule 32 (addDraws 32) (add 32) adds refreshDraws refresh refresh-refreshes p x sized small)
+        said (toArith-rule 32 (addDraws 32) (add 32) adds refreshDraws refresh refresh-refreshes x sized small)
         (ap (toArithDraws (addDraws 32) refreshDraws) size ∙ omega (arith, add-count n, and-count n)) (λ z g. g ∙ size)
 
     pub toArith-sums : (ws : List ℕ) → Words 32 ws → total (toArith 32 (add 32) refresh x ws 0 .0) % 2 ^ 32 ≡ opened x
-    toArith-sums ws = toArith-keeps 32 (lit< tt) p x sized words ws 0
+    toArith-sums ws = toArith-keeps 32 (lit< tt) x sized words ws 0
 
     pub there-back : (ws : List ℕ) → Words 32 ws
         → Makes 32 (a2bCall 32 n (toArith 32 (add 32) refresh x ws 0 .0)) (λ y. opened y ≡ opened x)
@@ -139,7 +150,7 @@ module _ (n : ℕ) (count : Allowed n) where
         record {
           made = λ came vs w′ h.
               rw h
-              (there-and-back 32 (addDraws 32) (add 32) adds refreshDraws refresh refresh-refreshes p x sized small ws vs 0 0 w);
+              (there-and-back 32 (addDraws 32) (add 32) adds refreshDraws refresh refresh-refreshes x sized small ws vs 0 0 w);
         }
 
     pub back-there : (ws : List ℕ) → Words 32 ws
@@ -149,7 +160,7 @@ module _ (n : ℕ) (count : Allowed n) where
         record {
           made = λ came vs w′ h.
               rw h
-              (back-and-there 32 (addDraws 32) (add 32) adds refreshDraws refresh refresh-refreshes p x ws vs 0 0 sized words w′);
+              (back-and-there 32 (addDraws 32) (add 32) adds refreshDraws refresh refresh-refreshes x ws vs 0 0 sized words w′);
         }
 
   -- ---- SHA-1 in shares, and a tag
@@ -205,7 +216,7 @@ words-opened k n (suc m) s w zero = opened-lt k (take n s) (words-take k n s w)
 words-opened k n (suc m) s w (suc i) = words-opened k n m (drop n s) (words-drop k n s w) i
 
 -- ---- one compression: a call whose output is a chain
-module _ (n : ℕ) (chain : Chain) (block : List ℕ) (whole : length (chain .shares) ≡ 40) where
+module _ (n : ℕ) (chain : Chain) (block : List ℕ) (whole : length (chain .shares) ≡ chainRoom) where
   abbrev d : ℕ
   d = 5220 * (n * (n - 1))
 
@@ -215,7 +226,7 @@ module _ (n : ℕ) (chain : Chain) (block : List ℕ) (whole : length (chain .sh
   compress-law : Allowed n → length block ≡ 16 * n → Rule d (λ z. length z ≡ 5 * n) rule
   compress-law c e =
       counted (compress-sized (sha1 32) n (some n c) (sha1-size n (some n c)) (used n (chain .shares)) block
-      (length-used n (chain .shares) (within n (ok n c) .1) whole) e) (compress-count n)
+      (length-used n (chain .shares) (c .1) whole) e) (compress-count n)
 
   module _ (ws : List ℕ) where
     abbrev o : Compressed
@@ -230,7 +241,7 @@ module _ (n : ℕ) (chain : Chain) (block : List ℕ) (whole : length (chain .sh
     -- ---- by that number: the new chain, or the one given
     pub compress-outcome : (let made = rule ws 0 in
         Settles {A = Chain × ℕ} (Given (Allowed n) (length block ≡ 16 * n) None None (d ≤ length ws)) (o .number)
-        (record { shares = made .0 ++ replicate (40 - 5 * n) 0 }, made .1) (chain, 0) (o .chain, o .drawn))
+        (record { shares = made .0 ++ replicate (chainRoom - 5 * n) 0 }, made .1) (chain, 0) (o .chain, o .drawn))
     unfolding chainOf
     compress-outcome =
         let made = rule ws 0 in
@@ -257,7 +268,7 @@ module _ (n : ℕ) (chain : Chain) (block : List ℕ) (whole : length (chain .sh
             ← front,
             ← alike law ws vs same enough,
             place law ws,
-            ok n (asks-for .0),
+            passed (says-count n) (asks-for .0),
             eq-eqb (length block) (16 * n) (asks-for .1),
             le-leb d (length ws) enough,
             le-leb d (length vs) (as-long law ws vs same enough),
@@ -270,9 +281,9 @@ module _ (n : ℕ) (chain : Chain) (block : List ℕ) (whole : length (chain .sh
           let c = asks-for .0 in
           let made = rule ws 0 .0 in
           let h = used n (chain .shares) in
-          let size = length-used n (chain .shares) (within n (ok n c) .1) whole in
+          let size = length-used n (chain .shares) (c .1) whole in
           rw accepted
-          (open-front n 5 made (replicate (40 - 5 * n) 0) (law .makes ws 0)
+          (open-front n 5 made (replicate (chainRoom - 5 * n) 0) (law .makes ws 0)
           ∙ compress-opens 32 n (some n c) (lit≤ tt) (addDraws 32) (add 32) adds h block ws 0 size (asks-for .1)
           (words-opened 32 n 5 h (words-take 32 (5 * n) (chain .shares) words)) (words-opened 32 n 16 block blocks)
           ∙ ap (λ t. compressOf 32 t (openWords n 16 block)) (open-used n (chain .shares) size))

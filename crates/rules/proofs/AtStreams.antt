@@ -17,7 +17,7 @@ use Rattle.rules.specs.Supply.{Rule, Words}
 use Rattle.rules.specs.Numbers.{longestMessage, allowed, Test, test}
 use Rattle.rules.specs.Hash.{Hash, blockBytes, wordsOf, allBytes, keyBlock, hmac}
 use Rattle.rules.specs.Standard.{SHA1}
-use Rattle.rules.specs.Sha1.{openWords}
+use Rattle.rules.specs.Sha1.{openWords, chainRoom}
 use Rattle.rules.specs.Hmac.{Masked}
 use Rattle.rules.specs.Counts.{startDraws, compressions, addDraws, sha1}
 use Rattle.rules.specs.Shares.{add}
@@ -34,7 +34,7 @@ use Rattle.rules.proofs.Hashes.{Chains, Proper, ending-words, key-bytes
 use Rattle.rules.proofs.MaskedHmac.{Keeps}
 use Rattle.rules.proofs.Sizes.{Sized, words-size, add-sizes, sha1-sizes, sha1-size, compress-count}
 use Rattle.rules.proofs.Tags.{sha1-proper, sha1-chains, hmacTag-is}
-use Rattle.rules.proofs.Outcomes.{says-count, says-eq, says-le, says-fit, passed as passes}
+use Rattle.rules.proofs.Outcomes.{says-count, says-eq, says-le, says-fit}
 use Rattle.rules.proofs.Outcomes.{settles, settled-three, call-settles, call-draws, call-past}
 use Rattle.rules.proofs.Opens.{Masks, masks, sha1-opens}
 use Rattle.rules.proofs.Streaming.{Readable, start-rule, feed-alike, finish-alike}
@@ -237,16 +237,13 @@ module _ (n : ℕ) (key text : List ℕ) (words : Words 32 key) (bytes : Words 8
 abbrev d : ℕ → ℕ
 d n = 5220 * (n * (n - 1))
 
-ok-count : (n : ℕ) → Allowed n → allowed n ≡ true
-ok-count n count = passes (says-count n) count
-
 module _ (n : ℕ) (key ws : List ℕ) where
   abbrev begins : Streamed
   begins = startCall (sha1 32) n key ws
 
   start-law : Allowed n → length key ≡ 16 * n → Rule (2 * d n) (λ t. Unit {0}) (start (sha1 32) n key)
   start-law count size =
-      let some = within n (ok-count n count) .0 in
+      let some = count .0 in
       said
       (start-rule (sha1-size n some) (sha1-proper 32) some (words-size (sha1 32) n some (sha1-size n some) 16 key size))
       (ap (λ t. 2 * t) (compress-count n)) (λ t g. tt)
@@ -273,10 +270,10 @@ module _ (n : ℕ) (key ws : List ℕ) where
 
 module _ (s : State) (whole : Whole s) (ws : List ℕ) where
   fit-some : Fit s → 0 < s .n
-  fit-some fit = within (s .n) (ok-count (s .n) (fit .1)) .0
+  fit-some fit = fit .1 .0
 
-  fit-few : Fit s → 5 * s .n ≤ 40
-  fit-few fit = omega (arith, within (s .n) (ok-count (s .n) (fit .1)) .1)
+  fit-few : Fit s → 5 * s .n ≤ chainRoom
+  fit-few fit = omega (arith, fit .1 .1)
 
   -- ---- feed
   module _ (piece : List ℕ) where

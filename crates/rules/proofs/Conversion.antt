@@ -6,21 +6,21 @@ use mathlib.Core.List.{List, [], _∷_, _++_, map}
 use native.Mathlib.Nat.{mod-lt, mod-eq-of-lt, add-mod, add-mod-mod, add-zero, add-assoc, zero-mod, pow-suc}
 use native.Mathlib.Omega.{arith}
 use lib.Bits.{xor-zero-r}
-use lib.Dec.{leb}
-use lib.ListN.{length, take, drop, length-append, length-drop, length-map, take-append-drop}
+use lib.Dec.{eqb, leb}
+use lib.ListN.{length, take, drop, replicate, length-append, length-drop, length-map, length-replicate, take-append-drop}
 use lib.Pow.{pow-pos}
 use lib.Seq.{length-take-le, getD-drop}
-use borrow.Author.Tests.{le-leb, lt-leb, leb-false}
+use borrow.Author.Tests.{eqb-true, eq-eqb, leb-true, le-leb, lt-leb, leb-false}
 use Rattle.words.specs.Word.{plus, minus}
 use Rattle.words.proofs.Words.{plus-mod, plus-minus, plus-lt, minus-lt}
 use Rattle.rules.specs.Supply.{Draw, Rule, Shares, Words, next, opened, total, openedSum}
-use Rattle.rules.specs.Shares.{add, refresh}
-use Rattle.rules.specs.Numbers.{choose}
-use Rattle.rules.specs.Convert.{Adder, Refresh, widen, halved, toBoolIn, toBool, toArith}
-use Rattle.rules.specs.Counts.{addDraws, refreshDraws, toBoolDrawsIn, toBoolDraws, toArithDraws}
+use Rattle.rules.specs.Shares.{refreshLast, refresh, expand, add}
+use Rattle.rules.specs.Numbers.{choose, either}
+use Rattle.rules.specs.Convert.{Adder, Refresh, powerTo, powerOfTwo, widen, halved, toBoolIn, toBool, toArith}
+use Rattle.rules.specs.Counts.{addDraws, refreshDraws, widenDraws, toBoolDrawsIn, toBoolDraws, toArithDraws}
 use Rattle.rules.proofs.Rule.{give, bind, counted, said, alike, next-rule}
-use Rattle.rules.proofs.Openings.{total-append}
-use Rattle.rules.proofs.Pairs.{refresh-rule}
+use Rattle.rules.proofs.Openings.{opened-append, opened-zeros, total-append}
+use Rattle.rules.proofs.Pairs.{refresh-rule, refreshLast-rule}
 use Rattle.rules.proofs.Addition.{add-rule, expand-rule}
 
 -- ---- what is asked of an addition that draws d n words, and of a refresh that draws e n
@@ -37,6 +37,67 @@ add-adds k hk n x y = add-rule k n x y hk
 
 pub refresh-refreshes : Refreshes refreshDraws refresh
 refresh-refreshes = refresh-rule
+
+-- ---- powers of two
+power-of : (m n : ℕ) → powerTo m n ≡ true → (p : ℕ) × (n ≡ 2 ^ p)
+unfolding powerTo
+power-of zero n h = (0, eqb-true n 1 h)
+power-of (suc m) n h = go (powerTo m n) (power-of m n) h
+  where
+    go : (b : Bool) → (b ≡ true → (p : ℕ) × (n ≡ 2 ^ p)) → either b (eqb n (2 ^ suc m)) ≡ true → (p : ℕ) × (n ≡ 2 ^ p)
+    go true below h = below refl
+    go false below h = (suc m, eqb-true n (2 ^ suc m) h)
+
+power-to : (p m : ℕ) → p ≤ m → powerTo m (2 ^ p) ≡ true
+unfolding powerTo
+power-to p zero h = let e : p ≡ 0 = omega arith in rw e
+power-to p (suc m) h = go (leb p m) refl (power-to p m)
+  where
+    last : (b : Bool) → either b true ≡ true
+    last true = refl
+    last false = refl
+
+    go : (b : Bool) → leb p m ≡ b → (p ≤ m → powerTo m (2 ^ p) ≡ true)
+        → either (powerTo m (2 ^ p)) (eqb (2 ^ p) (2 ^ suc m)) ≡ true
+    go true e below = rw (below (leb-true p m e))
+    go false e below =
+        let l = leb-false p m e in
+        let is : p ≡ suc m = omega arith in
+        rw (is, eq-eqb (2 ^ suc m) (2 ^ suc m) refl) (last (powerTo m (2 ^ suc m)))
+
+power-above : (p : ℕ) → p ≤ 2 ^ p
+power-above zero = omega arith
+power-above (suc p) = omega (arith, power-above p, pow-suc 2 p, pow-pos p)
+
+-- above one they are even
+power-even : (n : ℕ) → powerOfTwo n ≡ true → 1 < n → n ≡ n / 2 * 2
+power-even n h more = go (power-of n n h .0) (power-of n n h .1)
+  where
+    go : (p : ℕ) → n ≡ 2 ^ p → n ≡ n / 2 * 2
+    go zero e = absurd (omega arith)
+    go (suc p) e = omega (arith, pow-suc 2 p)
+
+-- ---- m of n shares brought to n
+widen-rule : (n : ℕ) (x : List ℕ) → length x ≤ n → (powerOfTwo n ≡ true → length x * 2 ≡ n)
+    → Rule (widenDraws n (length x)) (Shares n (opened x)) (widen n x)
+unfolding widen
+widen-rule n x few even = go (powerOfTwo n) even
+  where
+    filled : List ℕ
+    filled = x ++ replicate (n - length x) 0
+
+    all : length filled ≡ n
+    all = simp (length-append, length-replicate) (omega arith)
+
+    same : opened filled ≡ opened x
+    same =
+        opened-append x (replicate (n - length x) 0)
+        ∙ rw (opened-zeros (n - length x)) (xor-zero-r (opened x))
+
+    go : (b : Bool) → (b ≡ true → length x * 2 ≡ n)
+        → Rule (choose b (length x) (n - 1)) (Shares n (opened x)) (choose b (expand x) (refreshLast filled))
+    go true e = said (expand-rule (length x) x refl) refl (λ z g. (g .0 ∙ e refl, g .1))
+    go false e = said (refreshLast-rule n filled all) refl (λ z g. (g .0, g .1 ∙ same))
 
 -- ---- halves
 module _ (a : List ℕ) where
@@ -132,19 +193,56 @@ toBoolDrawsIn-enough d zero (suc more) n h l = rw (le-leb n 1 (omega arith))
 toBoolDrawsIn-enough d (suc deep) zero n h l = rw (le-leb n 1 (omega arith))
 toBoolDrawsIn-enough d (suc deep) (suc more) n h l =
     choose-same n 0 _ _ (λ many.
-    ap (λ m. 2 * m + n + d n) (toBoolDrawsIn-enough d deep more (n / 2) (omega arith) (omega arith)))
+    rw (
+      toBoolDrawsIn-enough d deep more (n / 2) (omega arith) (omega arith),
+      toBoolDrawsIn-enough d deep more (n - n / 2) (omega arith) (omega arith),
+    ))
 
 pub draws-one : (d : ℕ → ℕ) (n : ℕ) → n ≤ 1 → toBoolDraws d n ≡ 0
 unfolding toBoolDraws toBoolDrawsIn
 draws-one d zero h = refl
 draws-one d (suc n) h = rw (le-leb (suc n) 1 h)
 
-pub draws-more : (d : ℕ → ℕ) (n : ℕ) → 1 < n → toBoolDraws d n ≡ 2 * toBoolDraws d (n / 2) + n + d n
+-- m of n shares, converted and widened
+abbrev pub halfDraws : (ℕ → ℕ) → ℕ → ℕ → ℕ
+halfDraws d n m = toBoolDraws d m + widenDraws n m
+
+pub draws-more : (d : ℕ → ℕ) (n : ℕ) → 1 < n
+    → toBoolDraws d n ≡ halfDraws d n (n / 2) + halfDraws d n (n - n / 2) + d n
 unfolding toBoolDraws toBoolDrawsIn
 draws-more d zero h = absurd (omega arith)
 draws-more d (suc n) h =
-    let half = suc n / 2 in
-    rw (lt-leb (suc n) 1 h, toBoolDrawsIn-enough d n half half (omega arith) (omega arith))
+    let left = suc n / 2 in
+    let right = suc n - suc n / 2 in
+    rw (
+      lt-leb (suc n) 1 h,
+      toBoolDrawsIn-enough d n left left (omega arith) (omega arith),
+      toBoolDrawsIn-enough d n right right (omega arith) (omega arith),
+    )
+
+-- of a power of two, and of any other count
+pub draws-power : (d : ℕ → ℕ) (n p : ℕ) → 1 < n → n ≡ 2 ^ p → toBoolDraws d n ≡ 2 * toBoolDraws d (n / 2) + n + d n
+draws-power d n p h e =
+    let power : powerOfTwo n ≡ true = rw e (power-to p (2 ^ p) (power-above p)) in
+    let even = power-even n power h in
+    let half : n - n / 2 ≡ n / 2 = omega arith in
+    draws-more d n h ∙ rw (power, half) (omega arith)
+
+pub draws-other : (d : ℕ → ℕ) (n : ℕ) → 1 < n → ((p : ℕ) → n ≡ 2 ^ p → ⊥)
+    → toBoolDraws d n ≡ toBoolDraws d (n / 2) + toBoolDraws d (n - n / 2) + 2 * (n - 1) + d n
+draws-other d n h none = draws-more d n h ∙ go (powerOfTwo n) refl
+  where
+    left : ℕ
+    left = toBoolDraws d (n / 2)
+
+    right : ℕ
+    right = toBoolDraws d (n - n / 2)
+
+    go : (b : Bool) → powerOfTwo n ≡ b
+        → left + choose b (n / 2) (n - 1) + (right + choose b (n - n / 2) (n - 1)) + d n
+        ≡ left + right + 2 * (n - 1) + d n
+    go true e = absurd (none (power-of n n e .0) (power-of n n e .1))
+    go false e = omega arith
 
 -- ---- −A1, …, −A(n−1), 0
 abbrev pub negatives : ℕ → List ℕ → List ℕ
@@ -160,54 +258,78 @@ words-negatives k (a ∷ A) zero = minus-lt k 0 a
 words-negatives k (a ∷ A) (suc i) = words-negatives k A i
 
 module _ (k : ℕ) (d : ℕ → ℕ) (adder : Adder) (adds : Adds k d adder) where
-  -- ---- arithmetic to Boolean, of 2^p shares
-  toBool-one-rule : (a : List ℕ) → length a ≡ 1 → Words k a
-      → Rule (toBoolDraws d (length a)) (Shares (length a) (openedSum k a)) (toBool adder a)
-  toBool-one-rule a h w =
+  -- ---- arithmetic to Boolean
+  abbrev Converts : List ℕ → Type 0
+  Converts a = Rule (toBoolDraws d (length a)) (Shares (length a) (openedSum k a)) (toBool adder a)
+
+  one-rule : (a : List ℕ) → length a ≡ 1 → Words k a → Converts a
+  one-rule a h w =
       alike (λ ws at. toBool-one adder a ws at (omega arith))
       (counted
       (give (Shares (length a) (openedSum k a)) a (refl, sym (one-adds k a (omega arith) w)))
       (sym (draws-one d (length a) (omega arith))))
 
-  pub toBool-rule : (p : ℕ) (a : List ℕ) → length a ≡ 2 ^ p → Words k a
-      → Rule (toBoolDraws d (length a)) (Shares (length a) (openedSum k a)) (toBool adder a)
-  unfolding halved widen
-  toBool-rule zero a h w = toBool-one-rule a h w
-  toBool-rule (suc p) a h w =
+  -- a half of n shares, converted and widened
+  half-rule : (n : ℕ) (a : List ℕ) → Converts a → length a ≤ n → (powerOfTwo n ≡ true → length a * 2 ≡ n)
+      → Rule (halfDraws d n (length a)) (Shares n (openedSum k a))
+      (λ ws at. let b = toBool adder a ws at in widen n (b .0) ws (b .1))
+  half-rule n a converts few even =
+      bind converts (λ x ix.
+      said (widen-rule n x (omega arith) (λ e. rw (ix .0) (even e))) (ap (widenDraws n) (ix .0))
+      (λ z g. (g .0, g .1 ∙ ix .1)))
+
+  -- both halves, and their sum
+  halves-rule : (a : List ℕ) → 1 < length a
+      → (let h = length a / 2 in Converts (take h a) → Converts (drop h a) → Converts a)
+  unfolding halved
+  halves-rule a more left right =
       let n = length a in
-      let even : n ≡ 2 ^ p * 2 = h ∙ pow-suc 2 p in
-      let some = pow-pos p in
       let u = take (n / 2) a in
       let o = drop (n / 2) a in
       let lu : length u ≡ n / 2 = length-left a in
-      let lo : length o ≡ n / 2 = length-right a ∙ omega arith in
-      alike (λ ws at. toBool-more adder a ws at (omega arith))
+      let lo : length o ≡ n - n / 2 = length-right a in
+      let low : (t : ℕ) → t % 2 ^ k < 2 ^ k = λ t. mod-lt t (pow-pos k) in
+      alike (λ ws at. toBool-more adder a ws at more)
       (counted
-      (bind (toBool-rule p u (lu ∙ omega arith) (words-take k (n / 2) a w)) (λ l il.
-      bind (expand-rule (n / 2) l (il .0 ∙ lu)) (λ x ix.
-      bind (toBool-rule p o (lo ∙ omega arith) (words-drop k (n / 2) a w)) (λ r ir.
-      bind (expand-rule (n / 2) r (ir .0 ∙ lo)) (λ y iy.
-      let ox : opened x ≡ openedSum k u = ix .1 ∙ il .1 in
-      let oy : opened y ≡ openedSum k o = iy .1 ∙ ir .1 in
-      let hx : opened x < 2 ^ k = rw ox (mod-lt (total u) (pow-pos k)) in
-      let hy : opened y < 2 ^ k = rw oy (mod-lt (total o) (pow-pos k)) in
-      said (adds n x y (ix .0 ∙ omega arith) (iy .0 ∙ omega arith) hx hy) refl (λ z g. (
+      (bind (half-rule n u left (omega arith) (λ e. omega (arith, power-even n e more))) (λ x ix.
+      bind (half-rule n o right (omega arith) (λ e. omega (arith, power-even n e more))) (λ y iy.
+      said (adds n x y (ix .0) (iy .0) (rw (ix .1) (low (total u))) (rw (iy .1) (low (total o)))) refl (λ z g. (
         g .0,
-        g .1 ∙ rw (ox, oy) (plus-mod k (total u) (total o) ∙ ap (λ t. t % 2 ^ k) (total-halves (n / 2) a)),
-      )))))))
-      (rw (lu, lo) (sym (draws-more d n (omega arith) ∙ omega arith))))
+        g .1 ∙ rw (ix .1, iy .1) (plus-mod k (total u) (total o) ∙ ap (λ t. t % 2 ^ k) (total-halves (n / 2) a)),
+      )))))
+      (rw (lu, lo) (sym (draws-more d n more ∙ omega arith))))
+
+  -- of at most m shares
+  within-rule : (m : ℕ) (a : List ℕ) → length a ≤ m → 0 < length a → Words k a → Converts a
+  within-rule zero a few some w = absurd (omega arith)
+  within-rule (suc m) a few some w = go (leb (length a) 1) refl (within-rule m)
+    where
+      go : (b : Bool) → leb (length a) 1 ≡ b
+          → ((a : List ℕ) → length a ≤ m → 0 < length a → Words k a → Converts a) → Converts a
+      go true e below = one-rule a (omega (arith, leb-true (length a) 1 e)) w
+      go false e below =
+          let h = length a / 2 in
+          let more = leb-false (length a) 1 e in
+          let lu = length-left a in
+          let lo = length-right a in
+          halves-rule a more
+          (below (take h a) (omega arith) (omega arith) (words-take k h a w))
+          (below (drop h a) (omega arith) (omega arith) (words-drop k h a w))
+
+  pub toBool-rule : (a : List ℕ) → 0 < length a → Words k a → Converts a
+  toBool-rule a = within-rule (length a) a (omega arith)
 
   -- ---- Boolean to arithmetic
   module _ (e : ℕ → ℕ) (fresh : Refresh) (freshens : Refreshes e fresh)
-      (p : ℕ) (x : List ℕ) (size : length x ≡ 2 ^ p) (hx : opened x < 2 ^ k) where
+      (x : List ℕ) (some : 0 < length x) (hx : opened x < 2 ^ k) where
     negatives-rule : (A : List ℕ) → length A ≡ length x - 1
         → Rule (toBoolDraws d (length x))
         (Shares (length x) (openedSum k (negatives k A)))
         (toBool adder (negatives k A))
     negatives-rule A h =
-        let l : length (negatives k A) ≡ length x = length-negatives k A ∙ omega (arith, pow-pos p) in
+        let l : length (negatives k A) ≡ length x = length-negatives k A ∙ omega arith in
         said
-        (toBool-rule p (negatives k A) (l ∙ size) (words-negatives k A))
+        (toBool-rule (negatives k A) (omega arith) (words-negatives k A))
         (ap (toBoolDraws d) l)
         (λ z g. (g .0 ∙ l, g .1))
 
@@ -226,7 +348,7 @@ module _ (k : ℕ) (d : ℕ → ℕ) (adder : Adder) (adds : Adds k d adder) whe
         bind (add-x A b ib) (λ s is.
         bind (freshens (length x) s (is .0)) (λ y iy.
         give (λ z. length z ≡ length x) (A ++ (opened y ∷ []))
-        (length-append A (opened y ∷ []) ∙ omega (arith, pow-pos p)))))))
+        (length-append A (opened y ∷ []) ∙ omega arith))))))
         (omega arith)
 
     -- a list and its negatives come to nothing
@@ -292,14 +414,15 @@ module _ (k : ℕ) (d : ℕ → ℕ) (adder : Adder) (adds : Adds k d adder) whe
         → opened (toBool adder (toArith k adder fresh x ws at .0) vs from .0) ≡ opened x
     there-and-back ws vs at from hw =
         let a = toArith k adder fresh x ws at .0 in
-        toBool-rule p a (toArith-rule .makes ws at ∙ size) (words-toArith ws at hw) .makes vs from .1
+        let sized = toArith-rule .makes ws at in
+        toBool-rule a (omega arith) (words-toArith ws at hw) .makes vs from .1
         ∙ toArith-opens ws at hw
 
   -- and from arithmetic shares
   pub back-and-there : (e : ℕ → ℕ) (fresh : Refresh) → Refreshes e fresh
-      → (p : ℕ) (a ws vs : List ℕ) (at from : ℕ) → length a ≡ 2 ^ p → Words k a → Words k vs
+      → (a ws vs : List ℕ) (at from : ℕ) → 0 < length a → Words k a → Words k vs
       → openedSum k (toArith k adder fresh (toBool adder a ws at .0) vs from .0) ≡ openedSum k a
-  back-and-there e fresh freshens p a ws vs at from size ha hv =
-      let g = toBool-rule p a size ha .makes ws at in
+  back-and-there e fresh freshens a ws vs at from some ha hv =
+      let g = toBool-rule a some ha .makes ws at in
       let low : opened (toBool adder a ws at .0) < 2 ^ k = rw (g .1) (mod-lt (total a) (pow-pos k)) in
-      toArith-opens e fresh freshens p (toBool adder a ws at .0) (g .0 ∙ size) low vs from hv ∙ g .1
+      toArith-opens e fresh freshens (toBool adder a ws at .0) (omega arith) low vs from hv ∙ g .1

@@ -14,7 +14,7 @@ use Rattle.words.specs.Word.{minus}
 use Rattle.rules.specs.Supply.{next, opened, split}
 use Rattle.rules.specs.Numbers.{largest}
 use Rattle.rules.specs.Shares.{Step, each, pass, along, order, column, cross, and, doubleXor, carries, add, expand}
-use Rattle.rules.specs.Sha1.{used}
+use Rattle.rules.specs.Sha1.{chainRoom, used}
 use Rattle.rules.specs.Counts.{andDraws, addDraws}
 use Rattle.rules.proofs.Openings.{length-each, each-at}
 use Rattle.rules.proofs.Bytes.{map-at}
@@ -319,10 +319,10 @@ split-made value at p mask s ws m h e f =
     rw (sub-zero last, drawn, f, set-last m s (bitXor value (opened m)) last front (omega arith))
 
 -- ---- the array of a chain record that is handed over, as the checker knows it
-pub chain-length : (a : List ℕ) → length (map (λ (v : ℕ). v) a) ≡ 40 → length a ≡ 40
+pub chain-length : (a : List ℕ) → length (map (λ (v : ℕ). v) a) ≡ chainRoom → length a ≡ chainRoom
 chain-length a e = sym (length-map a (λ (v : ℕ). v)) ∙ e
 
--- of its 40 words 5n are used
-pub length-used : (n : ℕ) (chain : List ℕ) → n ≤ largest → length chain ≡ 40 → length (used n chain) ≡ 5 * n
+-- of its words 5n are used
+pub length-used : (n : ℕ) (chain : List ℕ) → n ≤ largest → length chain ≡ chainRoom → length (used n chain) ≡ 5 * n
 unfolding used
 length-used n chain few whole = length-take-le (5 * n) chain (omega arith)

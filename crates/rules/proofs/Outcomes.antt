@@ -64,7 +64,8 @@ unfolding power
 says-power n = says-either (says-eq n 1) (says-either (says-eq n 2) (says-either (says-eq n 4) (says-eq n 8)))
 
 pub says-count : (n : ℕ) → Says (Allowed n) (allowed n)
-says-count = says-power
+unfolding allowed
+says-count n = says-both (says-le 1 n) (says-le n 16)
 
 pub says-fit : (n bytes finished : ℕ)
     → Says ((finished ≡ 0) × Allowed n × (bytes ≤ longestMessage)) (fit n bytes finished)

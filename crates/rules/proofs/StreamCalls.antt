@@ -17,7 +17,7 @@ use Rattle.rules.specs.Supply.{Rule}
 use Rattle.rules.specs.Numbers.{largest, longestMessage, allowed, test, first, settled}
 use Rattle.rules.specs.Hash.{Hash, blockBytes, chainWords, digestBytes}
 use Rattle.rules.specs.Standard.{SHA1}
-use Rattle.rules.specs.Sha1.{openWords}
+use Rattle.rules.specs.Sha1.{openWords, chainRoom}
 use Rattle.rules.specs.Hmac.{Masked}
 use Rattle.rules.specs.Counts.{startDraws, feedDraws, finishDraws, sha1}
 use Rattle.rules.specs.Stream.{inUse, waiting, isFit, state, start, feed, finish, startWords, feedWords}
@@ -38,14 +38,14 @@ use Rattle.rules.proofs.Loops.{chain-length}
 use Rattle.rules.proofs.Tested.{needs, taken, fits}
 
 module _ (M : Masked) (s : State) (some : 0 < s .n) (keeps : Keeps M (s .n) (λ v. Unit {0}) (Sized (s .n)))
-    (sixty-four : blockBytes (M .standard) ≡ 64) (room : chainWords (M .standard) * s .n ≤ 40) where
+    (sixty-four : blockBytes (M .standard) ≡ 64) (room : chainWords (M .standard) * s .n ≤ chainRoom) where
   abbrev H : Hash
   H = M .standard
 
   pub waits-size : length (s .tail) ≡ 64 → length (waiting H s) ≡ s .bytes % blockBytes H
   waits-size whole = length-take-le (s .bytes % blockBytes H) (s .tail) (rw sixty-four (omega arith))
 
-  in-use : (chain : Chain) → length (chain .shares) ≡ 40
+  in-use : (chain : Chain) → length (chain .shares) ≡ chainRoom
       → Goods (Sized (s .n)) (chainWords H) (inUse H s chain) (openWords (s .n) (chainWords H) (inUse H s chain))
   in-use chain whole =
       words-size M (s .n) some keeps (chainWords H) (inUse H s chain)
@@ -84,7 +84,7 @@ start-needs n key ws q h e =
     let count = holds _ _ (p .0) in
     let some = within n count .0 in
     let size = eqb-true (length key) (16 * n) (holds _ _ (p .1 .0)) in
-    needs (startDraws (sha1 32) n) q _ ws e (taken n count)
+    needs (startDraws (sha1 32) n) q _ ws e (taken count)
     (start-rule (sha1-size n some) (sha1-proper 32) some (words-size (sha1 32) n some (sha1-size n some) 16 key size))
 
 fit-taken : (s : State) → isFit s ≡ true → first (test 6 (isFit s) ∷ []) ≡ 0
@@ -129,8 +129,8 @@ module _ (s : State) (have number : ℕ) (q : Answer) where
         rw (zero-add, told) (leb-true _ _ (holds _ _ (p .1 .1 .0))),
       )
 
-module _ (s : State) (ws : List ℕ) (q : Answer) (inner : length (map (λ (v : ℕ). v) (s .inner .shares)) ≡ 40)
-    (outer : length (map (λ (v : ℕ). v) (s .outer .shares)) ≡ 40)
+module _ (s : State) (ws : List ℕ) (q : Answer) (inner : length (map (λ (v : ℕ). v) (s .inner .shares)) ≡ chainRoom)
+    (outer : length (map (λ (v : ℕ). v) (s .outer .shares)) ≡ chainRoom)
     (tail : length (map (λ (v : ℕ). v) (s .tail)) ≡ 64) where
   whole : Whole s
   whole =
@@ -140,7 +140,7 @@ module _ (s : State) (ws : List ℕ) (q : Answer) (inner : length (map (λ (v : 
         tail-whole = sym (length-map (s .tail) (λ (v : ℕ). v)) ∙ tail;
       }
 
-  few : allowed (s .n) ≡ true → chainWords (SHA1 32) * s .n ≤ 40
+  few : allowed (s .n) ≡ true → chainWords (SHA1 32) * s .n ≤ chainRoom
   few count = omega (arith, within (s .n) count .1)
 
   pub feed-needs : (piece : List ℕ)

@@ -20,7 +20,7 @@ use Rattle.rules.specs.Convert.{toBool, toArith}
 use Rattle.rules.specs.Short.{toArithShort}
 use Rattle.rules.specs.Counts.{refreshDraws, andDraws, addDraws, toBoolDraws, toArithDraws, shortDraws}
 use Rattle.rules.specs.Counts.{compressDraws, keyDraws, hmacDraws, sha1}
-use Rattle.rules.specs.Sha1.{compress, used, chainOf}
+use Rattle.rules.specs.Sha1.{compress, chainRoom, used, chainOf}
 use Rattle.rules.specs.Hmac.{splitKey, hmacTag}
 use Rattle.rules.specs.Calls.{oneTests, twoTests, openCall, query, compressCall}
 use Rattle.rules.proofs.Openings.{opened-lt}
@@ -31,90 +31,98 @@ use Rattle.rules.proofs.Short.{toArithShort-rule}
 use Rattle.rules.proofs.Sizes.{sha1-size, compress-sized, hmacTag-sized, splitKey-sized}
 use Rattle.rules.proofs.Tags.{sha1-proper}
 use Rattle.rules.proofs.Loops.{chain-length, length-used}
-use Rattle.rules.proofs.Allowed.{within, power-of}
+use Rattle.rules.proofs.Allowed.{both-true, power-within, within}
 use Rattle.rules.proofs.Calls.{passed, holds, same-test, settled-refused, tells}
 
-both-true : (a b : Bool) → both a b ≡ true → (a ≡ true) × (b ≡ true)
-both-true true b h = (refl, h)
-both-true false b h = let z : _≡_ {A = ℕ} 0 1 = cc in absurd (omega arith)
 
 -- a query refuses nothing of a share count that is taken, with a text that fits
-pub taken : (n : ℕ) → allowed n ≡ true → first (test 1 (allowed n) ∷ []) ≡ 0
+pub taken : {counted : Bool} → counted ≡ true → first (test 1 counted ∷ []) ≡ 0
 unfolding first test
-taken n h = rw h
+taken h = rw h
 
 taken-text : (n : ℕ) (fits : Bool) → allowed n ≡ true → fits ≡ true → first (test 1 (allowed n) ∷ test 4 fits ∷ []) ≡ 0
 unfolding first test
 taken-text n fits h e = rw (h, e)
 
 -- ---- what the callee of each kind of call may ask: the lengths, the share count and the room
-pub record Ready (n drawn have : ℕ) : Type 0 where
-  pub count : allowed n ≡ true
+pub record Ready (most n drawn have : ℕ) : Type 0 where
   pub some : 0 < n
-  pub few : n ≤ largest
+  pub few : n ≤ most
   pub room : 0 + drawn ≤ have
 
-ready : (n drawn have : ℕ) (q : Answer) (tests : List Test) → query tests drawn ≡ q → first tests ≡ 0 → allowed n ≡ true
-    → test 5 (leb (q .drawn) have) ≡ 0 → Ready n drawn have
-ready n drawn have q tests e h count enough =
+ready : {most n : ℕ} (drawn have : ℕ) (q : Answer) (tests : List Test) → query tests drawn ≡ q → first tests ≡ 0
+    → (0 < n) × (n ≤ most) → test 5 (leb (q .drawn) have) ≡ 0 → Ready most n drawn have
+ready drawn have q tests e h count enough =
     let enough′ = leb-true _ _ (holds _ _ enough) in
-    record { count = count; some = within n count .0; few = within n count .1; room = rw (zero-add, tells tests drawn q e h) enough′ }
+    record { some = count .0; few = count .1; room = rw (zero-add, tells tests drawn q e h) enough′ }
 
 module _ {n have number : ℕ} {q : Answer} where
   -- by the length x of an input of n shares, where d n words are drawn; m n shares out
   module _ (d : ℕ → ℕ) {x y : ℕ} where
-    pub one-ready : (m : ℕ → ℕ) → query (test 1 (allowed n) ∷ []) (d n) ≡ q
-        → first (test 1 (allowed n) ∷ test 2 (eqb x n) ∷ test 3 (eqb y (m n)) ∷ test 5 (leb (q .drawn) have) ∷ []) ≡ number
-        → number ≡ 0 → (x ≡ n) × (y ≡ m n) × Ready x (d x) have
-    one-ready m e is z =
+    counted-ready : {most : ℕ} (counted : ℕ → Bool) → ((n : ℕ) → counted n ≡ true → (0 < n) × (n ≤ most)) → (m : ℕ → ℕ)
+        → query (test 1 (counted n) ∷ []) (d n) ≡ q
+        → first (test 1 (counted n) ∷ test 2 (eqb x n) ∷ test 3 (eqb y (m n)) ∷ test 5 (leb (q .drawn) have) ∷ []) ≡ number
+        → number ≡ 0 → (x ≡ n) × (y ≡ m n) × Ready most x (d x) have
+    counted-ready counted bounds m e is z =
         let p = passed _ (is ∙ z) in
         let count = holds _ _ (p .0) in
         let size = eqb-true x n (holds _ _ (p .1 .0)) in
-        (size, eqb-true y (m n) (holds _ _ (p .1 .1 .0)), rw size (ready n (d n) have q _ e (taken n count) count (p .1 .1 .1 .0)))
+        let room = ready (d n) have q _ e (taken count) (bounds n count) (p .1 .1 .1 .0) in
+        (size, eqb-true y (m n) (holds _ _ (p .1 .1 .0)), rw size room)
+
+    pub one-ready : (m : ℕ → ℕ) → query (test 1 (allowed n) ∷ []) (d n) ≡ q
+        → first (test 1 (allowed n) ∷ test 2 (eqb x n) ∷ test 3 (eqb y (m n)) ∷ test 5 (leb (q .drawn) have) ∷ []) ≡ number
+        → number ≡ 0 → (x ≡ n) × (y ≡ m n) × Ready largest x (d x) have
+    one-ready = counted-ready allowed within
+
+    pub short-ready : query (test 1 (power n) ∷ []) (d n) ≡ q
+        → first (test 1 (power n) ∷ test 2 (eqb x n) ∷ test 3 (eqb y n) ∷ test 5 (leb (q .drawn) have) ∷ []) ≡ number
+        → number ≡ 0 → (x ≡ n) × (y ≡ n) × Ready 8 x (d x) have
+    short-ready = counted-ready power power-within (λ n. n)
 
     pub two-ready : {z : ℕ} → query (test 1 (allowed n) ∷ []) (d n) ≡ q
         → first (test 1 (allowed n) ∷ test 2 (both (eqb x n) (eqb y n)) ∷ test 3 (eqb z n) ∷ test 5 (leb (q .drawn) have) ∷ []) ≡ number
-        → number ≡ 0 → (x ≡ n) × (y ≡ n) × (z ≡ n) × Ready x (d x) have
+        → number ≡ 0 → (x ≡ n) × (y ≡ n) × (z ≡ n) × Ready largest x (d x) have
     two-ready {z} e is h =
         let p = passed _ (is ∙ h) in
         let count = holds _ _ (p .0) in
         let sizes = both-true _ _ (holds _ _ (p .1 .0)) in
         let size = eqb-true x n (sizes .0) in
-        let room = ready n (d n) have q _ e (taken n count) count (p .1 .1 .1 .0) in
+        let room = ready (d n) have q _ e (taken count) (within n count) (p .1 .1 .1 .0) in
         (size, eqb-true y n (sizes .1), eqb-true z n (holds _ _ (p .1 .1 .0)), rw size room)
 
   module _ {drawn : ℕ} (e : query (test 1 (allowed n) ∷ []) drawn ≡ q) {x : ℕ} where
     pub split-ready : first (test 1 (allowed n) ∷ test 3 (eqb x n) ∷ test 5 (leb (q .drawn) have) ∷ []) ≡ number
-        → number ≡ 0 → (x ≡ n) × Ready n drawn have
+        → number ≡ 0 → (x ≡ n) × Ready largest n drawn have
     split-ready is z =
         let p = passed _ (is ∙ z) in
         let count = holds _ _ (p .0) in
-        (eqb-true x n (holds _ _ (p .1 .0)), ready n drawn have q _ e (taken n count) count (p .1 .1 .0))
+        (eqb-true x n (holds _ _ (p .1 .0)), ready drawn have q _ e (taken count) (within n count) (p .1 .1 .0))
 
     pub block-ready : first (test 1 (allowed n) ∷ test 2 (eqb x (16 * n)) ∷ test 5 (leb (q .drawn) have) ∷ []) ≡ number
-        → number ≡ 0 → (x ≡ 16 * n) × Ready n drawn have
+        → number ≡ 0 → (x ≡ 16 * n) × Ready largest n drawn have
     block-ready is z =
         let p = passed _ (is ∙ z) in
         let count = holds _ _ (p .0) in
-        (eqb-true x (16 * n) (holds _ _ (p .1 .0)), ready n drawn have q _ e (taken n count) count (p .1 .1 .0))
+        (eqb-true x (16 * n) (holds _ _ (p .1 .0)), ready drawn have q _ e (taken count) (within n count) (p .1 .1 .0))
 
   module _ {drawn : ℕ} {fits : Bool} (e : query (test 1 (allowed n) ∷ test 4 fits ∷ []) drawn ≡ q) {x : ℕ} where
     pub key-ready : first (test 1 (allowed n) ∷ test 3 (eqb x (16 * n)) ∷ test 4 fits ∷ test 5 (leb (q .drawn) have) ∷ []) ≡ number
-        → number ≡ 0 → (x ≡ 16 * n) × (fits ≡ true) × Ready n drawn have
+        → number ≡ 0 → (x ≡ 16 * n) × (fits ≡ true) × Ready largest n drawn have
     key-ready is z =
         let p = passed _ (is ∙ z) in
         let count = holds _ _ (p .0) in
         let short = holds _ _ (p .1 .1 .0) in
-        (eqb-true x (16 * n) (holds _ _ (p .1 .0)), short, ready n drawn have q _ e (taken-text n _ count short) count (p .1 .1 .1 .0))
+        (eqb-true x (16 * n) (holds _ _ (p .1 .0)), short, ready drawn have q _ e (taken-text n _ count short) (within n count) (p .1 .1 .1 .0))
 
     pub tag-ready : {sized : Bool}
         → first (test 1 (allowed n) ∷ test 2 (eqb x (16 * n)) ∷ test 3 sized ∷ test 4 fits ∷ test 5 (leb (q .drawn) have) ∷ []) ≡ number
-        → number ≡ 0 → (x ≡ 16 * n) × (sized ≡ true) × (fits ≡ true) × Ready n drawn have
+        → number ≡ 0 → (x ≡ 16 * n) × (sized ≡ true) × (fits ≡ true) × Ready largest n drawn have
     tag-ready is z =
         let p = passed _ (is ∙ z) in
         let count = holds _ _ (p .0) in
         let short = holds _ _ (p .1 .1 .1 .0) in
-        let room = ready n drawn have q _ e (taken-text n _ count short) count (p .1 .1 .1 .1 .0) in
+        let room = ready drawn have q _ e (taken-text n _ count short) (within n count) (p .1 .1 .1 .1 .0) in
         (eqb-true x (16 * n) (holds _ _ (p .1 .0)), holds _ _ (p .1 .1 .0), short, room)
 
 -- ---- streaming: a state that is fit, and a piece that does not pass the limit
@@ -153,14 +161,14 @@ module _ (n : ℕ) (came ws : List ℕ) (q : Answer) where
       → query (test 1 (allowed n) ∷ []) (n - 1) ≡ q → split n value ws 0 .1 ≡ q .drawn
   split-needs value h e =
       let count = holds _ _ (passed _ h .0) in
-      needs (n - 1) q _ ws e (taken n count) (split-rule n value (within n count .0))
+      needs (n - 1) q _ ws e (taken count) (split-rule n value (within n count .0))
 
   module _ (x : List ℕ) where
     module _ (h : first (oneTests (allowed n) n n x came) ≡ 0) where
       pub refresh-needs : query (test 1 (allowed n) ∷ []) (refreshDraws n) ≡ q → refresh x ws 0 .1 ≡ q .drawn
       refresh-needs e =
           let p = passed _ h in
-          needs (refreshDraws n) q _ ws e (taken n (holds _ _ (p .0))) (refresh-rule n x (eqb-true (length x) n (holds _ _ (p .1 .0))))
+          needs (refreshDraws n) q _ ws e (taken (holds _ _ (p .0))) (refresh-rule n x (eqb-true (length x) n (holds _ _ (p .1 .0))))
 
       module _ (w : (i : ℕ) → Fits w32 (getD x i 0)) where
         pub toBool-needs : query (test 1 (allowed n) ∷ []) (toBoolDraws (addDraws 32) n) ≡ q → toBool (add 32) x ws 0 .1 ≡ q .drawn
@@ -168,9 +176,9 @@ module _ (n : ℕ) (came ws : List ℕ) (q : Answer) where
             let p = passed _ h in
             let count = holds _ _ (p .0) in
             let size = eqb-true (length x) n (holds _ _ (p .1 .0)) in
-            let t = power-of n count in
-            needs (toBoolDraws (addDraws 32) (length x)) q _ ws (rw size e) (taken n count)
-            (toBool-rule 32 (addDraws 32) (add 32) (add-adds 32 (omega arith)) (t .0) x (size ∙ t .1) (λ i. w i .fits))
+            let some = within n count .0 in
+            needs (toBoolDraws (addDraws 32) (length x)) q _ ws (rw size e) (taken count)
+            (toBool-rule 32 (addDraws 32) (add 32) (add-adds 32 (omega arith)) x (omega arith) (λ i. w i .fits))
 
         pub toArith-needs : query (test 1 (allowed n) ∷ []) (toArithDraws (addDraws 32) refreshDraws n) ≡ q
             → toArith 32 (add 32) refresh x ws 0 .1 ≡ q .drawn
@@ -178,24 +186,24 @@ module _ (n : ℕ) (came ws : List ℕ) (q : Answer) where
             let p = passed _ h in
             let count = holds _ _ (p .0) in
             let size = eqb-true (length x) n (holds _ _ (p .1 .0)) in
-            let t = power-of n count in
+            let some = within n count .0 in
             let secret = opened-lt 32 x (λ i. w i .fits) in
             let added = add-adds 32 (omega arith) in
-            needs (toArithDraws (addDraws 32) refreshDraws (length x)) q _ ws (rw size e) (taken n count)
-            (toArith-rule 32 (addDraws 32) (add 32) added refreshDraws refresh refresh-refreshes (t .0) x (size ∙ t .1) secret)
+            needs (toArithDraws (addDraws 32) refreshDraws (length x)) q _ ws (rw size e) (taken count)
+            (toArith-rule 32 (addDraws 32) (add 32) added refreshDraws refresh refresh-refreshes x (omega arith) secret)
 
     pub toArithShort-needs : first (oneTests (power n) n n x came) ≡ 0
         → query (test 1 (power n) ∷ []) (shortDraws n) ≡ q → toArithShort 32 x ws 0 .1 ≡ q .drawn
     toArithShort-needs h e =
         let p = passed _ h in
         let size = eqb-true (length x) n (holds _ _ (p .1 .0)) in
-        needs (shortDraws (length x)) q _ ws (rw size e) (taken n (holds _ _ (p .0))) (toArithShort-rule 32 x)
+        needs (shortDraws (length x)) q _ ws (rw size e) (taken (holds _ _ (p .0))) (toArithShort-rule 32 x)
 
     pub expand-needs : first (oneTests (allowed n) n (2 * n) x came) ≡ 0 → query (test 1 (allowed n) ∷ []) n ≡ q
         → expand x ws 0 .1 ≡ q .drawn
     expand-needs h e =
         let p = passed _ h in
-        needs n q _ ws e (taken n (holds _ _ (p .0))) (expand-rule n x (eqb-true (length x) n (holds _ _ (p .1 .0))))
+        needs n q _ ws e (taken (holds _ _ (p .0))) (expand-rule n x (eqb-true (length x) n (holds _ _ (p .1 .0))))
 
     module _ (y : List ℕ) (h : first (twoTests n x y came) ≡ 0) where
       count-two : allowed n ≡ true
@@ -205,10 +213,10 @@ module _ (n : ℕ) (came ws : List ℕ) (q : Answer) where
       sizes-two = let s = both-true _ _ (holds _ _ (passed _ h .1 .0)) in (eqb-true (length x) n (s .0), eqb-true (length y) n (s .1))
 
       pub and-needs : query (test 1 (allowed n) ∷ []) (andDraws n) ≡ q → and x y ws 0 .1 ≡ q .drawn
-      and-needs e = needs (andDraws n) q _ ws e (taken n count-two) (and-rule n x y (sizes-two .0) (sizes-two .1))
+      and-needs e = needs (andDraws n) q _ ws e (taken count-two) (and-rule n x y (sizes-two .0) (sizes-two .1))
 
       pub add-needs : (k : ℕ) → 0 < k → query (test 1 (allowed n) ∷ []) (addDraws k n) ≡ q → add k x y ws 0 .1 ≡ q .drawn
-      add-needs k wide e = needs (addDraws k n) q _ ws e (taken n count-two) (add-loop-rule k n x y wide (sizes-two .0) (sizes-two .1))
+      add-needs k wide e = needs (addDraws k n) q _ ws e (taken count-two) (add-loop-rule k n x y wide (sizes-two .0) (sizes-two .1))
 
   pub splitKey-needs : (key : List ℕ)
       → first (test 1 (allowed n) ∷ test 3 (eqb (length came) (16 * n)) ∷ test 4 (leb (length key) longestKey) ∷ []) ≡ 0
@@ -246,7 +254,7 @@ split-sized n value need have number came ws r is z e = rw (eqb-true (length cam
 module _ (n number : ℕ) (chain : Chain) (block ws : List ℕ) (q : Answer)
     (is : first (test 1 (allowed n) ∷ test 2 (eqb (length block) (16 * n)) ∷ test 5 (leb (q .drawn) (length ws)) ∷ []) ≡ number)
     (e : query (test 1 (allowed n) ∷ []) (compressDraws 32 n) ≡ q)
-    (good : length (map (λ (v : ℕ). v) (chain .shares)) ≡ 40) where
+    (good : length (map (λ (v : ℕ). v) (chain .shares)) ≡ chainRoom) where
   abbrev made : List ℕ × ℕ
   made = compress 32 (add 32) n (used n (chain .shares)) block ws 0
 
@@ -261,7 +269,7 @@ module _ (n number : ℕ) (chain : Chain) (block ws : List ℕ) (q : Answer)
       let p = passed _ h in
       let count = holds _ _ (p .0) in
       let size = eqb-true (length block) (16 * n) (holds _ _ (p .1 .0)) in
-      needs (compressDraws 32 n) q _ ws e (taken n count)
+      needs (compressDraws 32 n) q _ ws e (taken count)
       (compress-sized (sha1 32) n (within n count .0) (sha1-size n (within n count .0)) (used n (chain .shares)) block
       (full (within n count .1)) size)
 

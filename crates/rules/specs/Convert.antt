@@ -1,12 +1,13 @@
 -- Section 5: the conversions of n shares. The addition and the refresh that they use are parameters.
-use Prim.Native.Nat.{ℕ, zero, suc, _-_, _/_}
+use Prim.Native.Nat.{ℕ, zero, suc, _-_, _/_, _^_}
+use mathlib.Core.Bool.{Bool}
 use mathlib.Core.List.{[], _∷_, _++_, map}
-use lib.Dec.{leb}
-use lib.ListN.{length, take, drop}
+use lib.Dec.{eqb, leb}
+use lib.ListN.{length, take, drop, replicate}
 use Rattle.words.specs.Word.{Width, minus}
 use Rattle.rules.specs.Supply.{Count, Sharing, Draw, next, opened}
-use Rattle.rules.specs.Numbers.{choose}
-use Rattle.rules.specs.Shares.{expand}
+use Rattle.rules.specs.Numbers.{choose, either}
+use Rattle.rules.specs.Shares.{refreshLast, expand}
 
 abbrev pub Adder : Type 0
 Adder = Sharing → Sharing → Draw Sharing
@@ -14,11 +15,21 @@ Adder = Sharing → Sharing → Draw Sharing
 abbrev pub Refresh : Type 0
 Refresh = Sharing → Draw Sharing
 
--- half of n shares, converted, brought to n shares
-unfoldable pub widen : Count → Sharing → Draw Sharing
-widen n x = expand x
+-- n is one of 1, 2, 4, …, 2^m; and of these for some m
+unfoldable pub powerTo : ℕ → Count → Bool
+powerTo zero n = eqb n 1
+powerTo (suc m) n = either (powerTo m n) (eqb n (2 ^ suc m))
 
--- convert the left half and expand it, then the right half and expand it, then add
+abbrev pub powerOfTwo : Count → Bool
+powerOfTwo n = powerTo n n
+
+-- half of n shares, converted, brought to n shares: expanded where n is a power of two; else, by request (vi), zero
+-- shares are appended up to n, and it is refreshed by the old rule
+unfoldable pub widen : Count → Sharing → Draw Sharing
+widen n x = choose (powerOfTwo n) (expand x) (refreshLast (x ++ replicate (n - length x) 0))
+
+-- convert the left half and widen it, then the right half and widen it, then add; of an odd count the right one has
+-- more
 unfoldable pub halved : (Sharing → Draw Sharing) → Adder → Sharing → Draw Sharing
 halved convert adder a ws at =
     let n = length a in

@@ -6,7 +6,7 @@ use Rattle.words.specs.Word.{Width}
 use Rattle.rules.specs.Supply.{Count}
 use Rattle.rules.specs.Shares.{add}
 use Rattle.rules.specs.Numbers.{choose}
-use Rattle.rules.specs.Convert.{Adder}
+use Rattle.rules.specs.Convert.{Adder, powerOfTwo}
 use Rattle.rules.specs.Hash.{Hash, blockBytes}
 use Rattle.rules.specs.Standard.{SHA1}
 use Rattle.rules.specs.Sha1.{compress}
@@ -25,10 +25,19 @@ refreshDraws n = andDraws n
 abbrev pub addDraws : Width → Count → ℕ
 addDraws k n = k * andDraws n
 
--- W(1) = 0 and W(n) = 2W(n/2) + n + the words of one addition of n shares; d n is what an addition draws
+-- m shares brought to n
+abbrev pub widenDraws : Count → Count → ℕ
+widenDraws n m = choose (powerOfTwo n) m (n - 1)
+
+-- W(1) = 0, and W(n) is W of both halves, what each is widened by, and the words of one addition of n shares; d n is
+-- what an addition draws
 unfoldable pub toBoolDrawsIn : (Count → ℕ) → ℕ → Count → ℕ
 toBoolDrawsIn d zero n = 0
-toBoolDrawsIn d (suc deep) n = choose (leb n 1) 0 (2 * toBoolDrawsIn d deep (n / 2) + n + d n)
+toBoolDrawsIn d (suc deep) n =
+    let left = n / 2 in
+    let right = n - n / 2 in
+    let halves = toBoolDrawsIn d deep left + widenDraws n left + (toBoolDrawsIn d deep right + widenDraws n right) in
+    choose (leb n 1) 0 (halves + d n)
 
 unfoldable pub toBoolDraws : (Count → ℕ) → Count → ℕ
 toBoolDraws d n = toBoolDrawsIn d n n

@@ -6,14 +6,14 @@ use lib.Dec.{eqb, leb}
 
 -- the largest share count
 abbrev pub largest : ℕ
-largest = 8
+largest = 16
 
 -- the longest key given for splitting, and the longest message, in bytes
 abbrev pub longestKey : ℕ
 longestKey = 1024
 
 abbrev pub longestMessage : ℕ
-longestMessage = 4096
+longestMessage = 65536
 
 abbrev pub choose : {A : Type 0} → Bool → A → A → A
 choose true a b = a
@@ -31,9 +31,9 @@ both false b = false
 unfoldable pub power : ℕ → Bool
 power n = either (eqb n 1) (either (eqb n 2) (either (eqb n 4) (eqb n 8)))
 
--- and of all other calls
-abbrev pub allowed : ℕ → Bool
-allowed n = power n
+-- and of all other calls: 1 to 16
+unfoldable pub allowed : ℕ → Bool
+allowed n = both (leb 1 n) (leb n largest)
 
 -- a state that feed and finish take, else number 6: not after finish, of an allowed share count, and not past the limit
 unfoldable pub fit : ℕ → ℕ → ℕ → Bool

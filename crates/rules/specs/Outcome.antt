@@ -8,21 +8,22 @@ use Rattle.rules.specs.declared.Answer.{Answer}
 use Rattle.rules.specs.declared.State.{State}
 use Rattle.rules.specs.Supply.{Draw, Words}
 use Rattle.rules.specs.Numbers.{longestMessage}
+use Rattle.rules.specs.Sha1.{chainRoom}
 
 -- the share counts of the short conversion, and of all other calls
 abbrev pub Power : ℕ → Type 0
 Power n = (n ≡ 1) ⊎ (n ≡ 2) ⊎ (n ≡ 4) ⊎ (n ≡ 8)
 
 abbrev pub Allowed : ℕ → Type 0
-Allowed n = Power n
+Allowed n = (1 ≤ n) × (n ≤ 16)
 
 -- a state that feed and finish take; and the sizes that a state has by its type
 abbrev pub Fit : State → Type 0
 Fit s = (s .finished ≡ 0) × Allowed (s .n) × (s .bytes ≤ longestMessage)
 
 pub record Whole (s : State) : Type 0 where
-  pub inner-whole : length (s .inner .shares) ≡ 40
-  pub outer-whole : length (s .outer .shares) ≡ 40
+  pub inner-whole : length (s .inner .shares) ≡ chainRoom
+  pub outer-whole : length (s .outer .shares) ≡ chainRoom
   pub tail-whole : length (s .tail) ≡ 64
 
 -- what a call does not take it does not test

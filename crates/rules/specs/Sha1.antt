@@ -102,9 +102,12 @@ compress k add n h block ws at =
     let s = rounds k add n (schedule k n 64 block) 80 0 h ws at in
     sums add n h (s .0) 5 0 [] ws (s .1)
 
--- The chain record has 40 words, of which 5n are used: those looked at on entry, and a chain with the rest 0
+-- The chain record has 80 words, of which 5n are used: those looked at on entry, and a chain with the rest 0
+abbrev pub chainRoom : ℕ
+chainRoom = 80
+
 unfoldable pub used : Count → Sharing → Sharing
 used n chain = take (5 * n) chain
 
 unfoldable pub chainOf : Count → Sharing → Sharing
-chainOf n h = h ++ replicate (40 - 5 * n) 0
+chainOf n h = h ++ replicate (chainRoom - 5 * n) 0

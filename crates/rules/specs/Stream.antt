@@ -15,7 +15,7 @@ use Rattle.rules.specs.declared.Fed.the-variants.{Taken, Refused}
 use Rattle.rules.specs.Supply.{Draw, Count, Supply, Sharing}
 use Rattle.rules.specs.Numbers.{longestMessage, allowed, fit, test, settled}
 use Rattle.rules.specs.Hash.{Bytes, Hash, blockBytes, chainWords, digestBytes, wordsOf, filled}
-use Rattle.rules.specs.Sha1.{publics}
+use Rattle.rules.specs.Sha1.{publics, chainRoom}
 use Rattle.rules.specs.Hmac.{Masked, keyStep, textStep, digestStep, tagOf}
 use Rattle.rules.specs.Counts.{startDraws, feedDraws, finishDraws}
 use Rattle.rules.specs.Calls.{call, query}
@@ -44,8 +44,8 @@ state n bytes inner outer tail =
       n = n;
       bytes = bytes;
       finished = 0;
-      inner = record { shares = filled 40 inner };
-      outer = record { shares = filled 40 outer };
+      inner = record { shares = filled chainRoom inner };
+      outer = record { shares = filled chainRoom outer };
       tail = filled 64 tail;
     }
 

@@ -8,7 +8,7 @@ use Rattle.words.specs.Word.{plus, minus, shift}
 use Rattle.rules.specs.Goubin.{psi, b2aRecord, a2bStart, a2bRound, a2bRounds, a2bRecord}
 use Rattle.rules.specs.Supply.{next, opened}
 use Rattle.rules.specs.Shares.{each, pass, along, order, column, refreshLast, refresh, expand, and, carries, add}
-use Rattle.rules.specs.Convert.{widen, halved, toBoolIn, toBool, toArith}
+use Rattle.rules.specs.Convert.{powerTo, widen, halved, toBoolIn, toBool, toArith}
 use Rattle.rules.specs.Short.{psis, joined, summed, shorter, shortOf, toArithShort}
 use Rattle.rules.specs.Counts.{andDraws, quarterAnds, roundsAnds, compressAnds, hmacDraws, sha1}
 
@@ -56,11 +56,17 @@ table =
     row (refresh (1 ∷ 2 ∷ 4 ∷ []) (0x10 ∷ 0x20 ∷ 0x40 ∷ []) 0 .0) (0x31 ∷ 0x52 ∷ 0x64 ∷ []) ∷
     row (refresh (1 ∷ 2 ∷ 4 ∷ 8 ∷ []) (0x10 ∷ 0x20 ∷ 0x40 ∷ 0x80 ∷ 0x100 ∷ 0x200 ∷ []) 0 .0)
     (0x71 ∷ 0x192 ∷ 0x2A4 ∷ 0x348 ∷ []) ∷
+    -- request (vi): W(1) to W(16), as the conversion itself draws
+    row (map (λ n. toBool (add 32) (replicate n 0) [] 0 .1)
+    (1 ∷ 2 ∷ 3 ∷ 4 ∷ 5 ∷ 6 ∷ 7 ∷ 8 ∷ 9 ∷ 10 ∷ 11 ∷ 12 ∷ 13 ∷ 14 ∷ 15 ∷ 16 ∷ []))
+    (0 ∷ 34 ∷ 134 ∷ 264 ∷ 496 ∷ 758 ∷ 1082 ∷ 1432 ∷ 1928 ∷ 2450 ∷ 3034 ∷ 3650 ∷ 4360 ∷ 5102 ∷ 5902 ∷ 6720 ∷ []) ∷
+    -- and the right half of three shares, (11, 22), widened with 01, 02
+    row (widen 3 (0x11 ∷ 0x22 ∷ []) (1 ∷ 2 ∷ []) 0 .0) (0x10 ∷ 0x20 ∷ 3 ∷ []) ∷
     []
 
 pub reference : map (λ (r : Row). r .given) table ≡ map (λ (r : Row). r .stated) table
 unfolding table psi b2aRecord a2bStart a2bRound a2bRounds a2bRecord plus minus shift next opened
     each pass along order column refreshLast refresh expand and carries add
-    widen halved toBoolIn toBool toArith psis joined summed shorter shortOf toArithShort
+    powerTo widen halved toBoolIn toBool toArith psis joined summed shorter shortOf toArithShort
     andDraws quarterAnds roundsAnds compressAnds
 reference = refl

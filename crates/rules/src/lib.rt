@@ -2,12 +2,12 @@
 // types that answers have.
 
 // The largest share count: room for shares is made for so many.
-pub const LARGEST: usize = 8;
+pub const LARGEST: usize = 16;
 
 // The longest key given for splitting, and the longest message, in bytes.
 pub const LONGEST_KEY: usize = 1024;
 
-pub const LONGEST_MESSAGE: usize = 4096;
+pub const LONGEST_MESSAGE: usize = 65536;
 
 // SHA-1's sizes: words of a block and of a chain, rounds; bytes of a word, of a block, of the padding's length field and of
 // a tag.
@@ -46,7 +46,7 @@ pub struct Opened {
     pub word: u32,
 }
 
-// The masked chain value of SHA-1: one record of 40 words, of which 5n are used.
+// The masked chain value of SHA-1: one record of 80 words, of which 5n are used.
 #[repr(C)]
 pub struct Chain {
     pub shares: [u32; CHAIN],

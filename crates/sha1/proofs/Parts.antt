@@ -13,7 +13,7 @@ use Rattle.rules.specs.Convert.{Adder}
 use Rattle.rules.specs.Counts.{andDraws, roundsAnds, compressAnds, compressDraws}
 use Rattle.rules.specs.declared.Chain.{Chain}
 use Rattle.rules.specs.Hash.{filled}
-use Rattle.rules.specs.Sha1.{word, rounds, schedule, sums, compress, used, chainOf}
+use Rattle.rules.specs.Sha1.{word, rounds, schedule, sums, compress, chainRoom, used, chainOf}
 use Rattle.rules.proofs.Loops.{Run, times-suc, chain-length, length-used}
 use Rattle.masked_words.specs.Words.{firsts}
 use Rattle.masked_words.proofs.Parts.{firsts-all}
@@ -118,7 +118,7 @@ module _ (n at : ℕ) where
   compress-after p q e g = omega (arith, parts)
 
 -- ---- cleared, compress: the chain record
--- an array that is handed over has its 40 words
+-- an array that is handed over has all its words
 module _ (chain : List ℕ) (whole : length (map (λ (v : ℕ). v) chain) ≡ 5 * largest) where
   pub chain-end : 5 * largest ≤ length chain
   chain-end = omega (arith, chain-length chain whole)
@@ -134,7 +134,7 @@ module _ (chain : List ℕ) (whole : length (map (λ (v : ℕ). v) chain) ≡ 5 
       → rest ≡ replicate (length (take (5 * largest - 5 * n) (drop (5 * n) chain))) 0
       → _≡_ {A = Chain}
       (record { shares = take (5 * n) chain ++ (rest ++ drop (5 * largest - 5 * n) (drop (5 * n) chain)) })
-      (record { shares = filled 40 (used n chain) })
+      (record { shares = filled chainRoom (used n chain) })
   unfolding used
   cleared-made n rest few e =
       let m = 5 * largest - 5 * n in
@@ -144,13 +144,13 @@ module _ (chain : List ℕ) (whole : length (map (λ (v : ℕ). v) chain) ≡ 5 
       rw (none, append-nil rest, e, length-take-le m behind (omega arith), used-size n few)
 
   -- the used words, lent; new ones in their place
-  module _ (n : ℕ) (few : n ≤ largest) (old : Chain) (is : old ≡ record { shares = filled 40 (used n chain) })
+  module _ (n : ℕ) (few : n ≤ largest) (old : Chain) (is : old ≡ record { shares = filled chainRoom (used n chain) })
       (z : List ℕ) (size : length z ≡ 5 * n) where
     abbrev all : List ℕ
     all = old .shares
 
-    zeros : all ≡ used n chain ++ replicate (40 - 5 * n) 0
-    zeros = ap (λ (c : Chain). c .shares) is ∙ ap (λ m. used n chain ++ replicate (40 - m) 0) (used-size n few)
+    zeros : all ≡ used n chain ++ replicate (chainRoom - 5 * n) 0
+    zeros = ap (λ (c : Chain). c .shares) is ∙ ap (λ m. used n chain ++ replicate (chainRoom - m) 0) (used-size n few)
 
     record-used : used n (z ++ drop (5 * n - 0) all) ≡ z
     unfolding used

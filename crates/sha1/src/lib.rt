@@ -5,7 +5,7 @@ ghost use Prim.Native.Nat.{_+_, _*_, _≤_, _<_};
 ghost use lib.ListN.{length, drop};
 ghost use Rattle.rules.specs.Numbers.{largest};
 ghost use Rattle.rules.specs.Shares.{add};
-ghost use Rattle.rules.specs.Sha1.{word, sums, compress, used, chainOf};
+ghost use Rattle.rules.specs.Sha1.{word, sums, compress, chainRoom, used, chainOf};
 ghost use Rattle.rules.specs.Hash.{filled};
 ghost use Rattle.rules.specs.Counts.{andDraws, compressDraws};
 ghost use Rattle.masked_words.specs.Words.{Sized, firsts};
@@ -75,7 +75,7 @@ fn compress_at(n: usize, block: &mut [u32], z: &mut [u32], words: &[u32], at: us
 // A chain with 0 in its unused words.
 pub fn cleared(n: usize, chain: Chain) -> Chain
     requires { ⌜ n ≤ largest ⌝ }
-    ensures { λ r. ⌜ r ≡ record { shares = filled 40 (used n (chain .shares)) } ⌝ }
+    ensures { λ r. ⌜ r ≡ record { shares = filled chainRoom (used n (chain .shares)) } ⌝ }
 {
     let end = CHAIN_WORDS * n;
     let mut all = chain.shares;

@@ -3,7 +3,7 @@ ghost use mathlib.Core.Path.{_≡_};
 ghost use mathlib.Core.List.{[]};
 ghost use Prim.Native.Nat.{_≤_};
 ghost use Rattle.rules.specs.Numbers.{largest};
-ghost use Rattle.rules.specs.Sha1.{used};
+ghost use Rattle.rules.specs.Sha1.{chainRoom, used};
 ghost use Rattle.rules.specs.Hash.{filled};
 ghost use Rattle.rules.specs.Stream.{state, closed};
 use rules::BLOCK_BYTES;
@@ -24,8 +24,8 @@ pub fn state_of(
       n = n;
       bytes = bytes;
       finished = 0;
-      inner = record { shares = filled 40 (used n (inner .shares)) };
-      outer = record { shares = filled 40 (used n (outer .shares)) };
+      inner = record { shares = filled chainRoom (used n (inner .shares)) };
+      outer = record { shares = filled chainRoom (used n (outer .shares)) };
       tail = tail;
     } ⌝ }
 {

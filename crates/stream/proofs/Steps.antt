@@ -10,7 +10,7 @@ use Rattle.rules.specs.declared.State.{State}
 use Rattle.rules.specs.Numbers.{longestMessage}
 use Rattle.rules.specs.Hash.{numberOf, allBytes, ending, filled}
 use Rattle.rules.specs.Standard.{SHA1, H0}
-use Rattle.rules.specs.Sha1.{publics, openWords, used}
+use Rattle.rules.specs.Sha1.{publics, openWords, chainRoom, used}
 use Rattle.rules.specs.Hmac.{marked, blocks, digestPadding}
 use Rattle.rules.specs.Stream.{state, start, finish}
 use Rattle.rules.proofs.Hashes.{ending-blocks}
@@ -27,8 +27,8 @@ pub start-made : (n : ℕ) (key ws : List ℕ) (at p q : ℕ) (i o : Chain) (s :
       n = n;
       bytes = 0;
       finished = 0;
-      inner = record { shares = filled 40 (used n (i .shares)) };
-      outer = record { shares = filled 40 (used n (o .shares)) };
+      inner = record { shares = filled chainRoom (used n (i .shares)) };
+      outer = record { shares = filled chainRoom (used n (o .shares)) };
       tail = replicate 64 0;
     }
     → start hash n key ws at ≡ (s, q)

@@ -9,7 +9,7 @@ feed-at-requires c κs =
     let state = c .before .before .before .before .before .args .state in
     feed-ready state _ _ _ _ (c .before .before .feed-words .ensures) (c .before .feeding .ensures) (c .if1 .left)
 
--- that the chains have 40 words and the tail 64 bytes is their types'
+-- that the chains have 80 words and the tail 64 bytes is their types'
 returns-2 : tie.Need-returns-2
 returns-2 c =
     let state = c .before .before .before .before .before .before .before .good .0 in

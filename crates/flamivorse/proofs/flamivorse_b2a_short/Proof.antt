@@ -2,14 +2,14 @@
 use borrow.Author.Needs.{needs}
 use Rattle.rules.specs.Counts.{shortDraws}
 use Rattle.rules.proofs.Calls.{refused, done}
-use Rattle.rules.proofs.Tested.{one-ready, toArithShort-needs}
+use Rattle.rules.proofs.Tested.{short-ready, toArithShort-needs}
 use Rattle.flamivorse.proofs.flamivorse_b2a_short.Statement.{statement}
 use Rattle.flamivorse.proofs.flamivorse_b2a_short.Tie as tie
 
 to-arith-short-requires : tie.Need-to-arith-short-requires
 to-arith-short-requires c κs =
     let told = c .before .before .before .short-words .ensures in
-    let p = one-ready shortDraws (λ n. n) told (c .before .before .short-input .ensures) (c .before .if1 .left) in
+    let p = short-ready shortDraws told (c .before .before .short-input .ensures) (c .before .if1 .left) in
     search needs
 
 pub flamivorse-b2a-short-spec : {M : Type 1} → statement M

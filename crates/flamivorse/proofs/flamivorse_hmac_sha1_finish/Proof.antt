@@ -6,7 +6,7 @@ use Rattle.rules.proofs.StreamCalls.{finish-ready, finish-refused, finish-done}
 use Rattle.flamivorse.proofs.flamivorse_hmac_sha1_finish.Statement.{statement}
 use Rattle.flamivorse.proofs.flamivorse_hmac_sha1_finish.Tie as tie
 
--- that the chains have 40 words and the tail 64 bytes is their types'
+-- that the chains have 80 words and the tail 64 bytes is their types'
 returns : tie.Need-returns
 returns c =
     let start = c .before .before .before .before .before .before in
