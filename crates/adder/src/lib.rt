@@ -1,6 +1,6 @@
 // AND and addition of shares, by loops over slices: the reference, for any count. The form of an addition is chosen
-// here: few shares by words of their own (crate `few`), the largest count by the same loops with a constant count, which
-// the compiler unrolls, any other by the reference. Each function is proved to be its rule, word for word of the supply.
+// here: few shares by words of their own (crate `few`), eight by the same loops with a constant count, which the compiler
+// unrolls, any other by the reference. Each function is proved to be its rule, word for word of the supply.
 ghost use mathlib.Core.Path.{_≡_};
 ghost use Prim.Native.Nat.{_+_, _-_, _*_, _≤_, _<_};
 ghost use lib.Bits.{bitAnd};
@@ -17,6 +17,9 @@ use shares::copy;
 use shares::xor_each;
 use supply::draw_at;
 use width::Word;
+
+// The share count that has a form with a constant count.
+const EIGHT: usize = 8;
 
 // By shares: zi = xi AND yi, the diagonal of the masked AND.
 fn and_each(n: usize, x: &[Word], y: &[Word], z: &mut [Word])
@@ -155,19 +158,18 @@ fn add_of(n: usize, x: &mut [Word], y: &[Word], words: &[Word], at: usize) -> us
     q
 }
 
-// The same at the largest count.
-fn add_largest(x: &mut [Word], y: &[Word], words: &[Word], at: usize) -> usize
-    requires { ⌜ (length (now x) ≡ largest) × (length (now y) ≡ largest)
-        × (at + addDraws bits largest ≤ length (now words)) ⌝ }
+// The same of eight.
+fn add_eight(x: &mut [Word], y: &[Word], words: &[Word], at: usize) -> usize
+    requires { ⌜ (length (now x) ≡ 8) × (length (now y) ≡ 8) × (at + addDraws bits 8 ≤ length (now words)) ⌝ }
     ensures { λ r. ⌜ (add bits (now (x .entry)) (now (y .entry)) (now (words .entry)) at ≡ (now (x .exit), r))
-        × (r ≡ at + addDraws bits largest) ⌝ }
+        × (r ≡ at + addDraws bits 8) ⌝ }
 {
-    let mut w: [Word; LARGEST] = [0; LARGEST];
-    let mut a: [Word; LARGEST] = [0; LARGEST];
-    let mut u: [Word; LARGEST] = [0; LARGEST];
-    let p = and_of(LARGEST, x, y, &mut w, words, at);
+    let mut w: [Word; EIGHT] = [0; EIGHT];
+    let mut a: [Word; EIGHT] = [0; EIGHT];
+    let mut u: [Word; EIGHT] = [0; EIGHT];
+    let p = and_of(EIGHT, x, y, &mut w, words, at);
     xor_each(x, y, &mut a);
-    let q = carry_at(LARGEST, &a, &w, &mut u, words, p);
+    let q = carry_at(EIGHT, &a, &w, &mut u, words, p);
     xor_each(&a, &u, x);
     q
 }
@@ -183,8 +185,8 @@ pub fn add_in(x: &mut [Word], y: &[Word], words: &[Word], at: usize) -> usize
     if is_few(n) {
         return few::add_in(x, y, words, at);
     }
-    if n == LARGEST {
-        return add_largest(x, y, words, at);
+    if n == EIGHT {
+        return add_eight(x, y, words, at);
     }
     add_of(n, x, y, words, at)
 }

@@ -7,7 +7,7 @@ use native.Mathlib.Nat.{sub-zero}
 use lib.ListN.{length, getD, set, take, drop, replicate, length-append, length-drop, take-append-drop}
 use lib.ListN.{List·getD-append}
 use lib.Seq.{take-at, take-all, drop-drop, getD-append-add, getD-take, getD-drop, length-take-le}
-use Rattle.words.proofs.Stores.{filled-next, filled-end}
+use Rattle.words.proofs.Stores.{filled-next, filled-end, zeros-after}
 use Rattle.rules.specs.declared.Chain.{Chain}
 use Rattle.rules.specs.declared.State.{State}
 use Rattle.rules.specs.Numbers.{longestMessage}
@@ -20,7 +20,6 @@ use Rattle.rules.proofs.Bytes.{length-words, words-front}
 use Rattle.rules.proofs.Hashes.{ending-front}
 use Rattle.rules.proofs.Tags.{sha1-proper}
 use Rattle.hash.specs.Hash.{hash}
-use Rattle.sha1.proofs.Parts.{zeros-after}
 use Rattle.states.proofs.Tails.{tail-room, tail-size}
 
 -- ---- the bytes that wait and then the piece

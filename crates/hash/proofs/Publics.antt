@@ -12,6 +12,7 @@ use lib.ListN.{take-append-drop}
 use lib.ListN.{drop-of-length-le, List·getD-append}
 use lib.Seq.{drop-cons, take-at, length-take-le, take-append-add, drop-append-add, take-nil, drop-nil, getD-append-add}
 use lib.Seq.{set-append-left}
+use Rattle.words.proofs.Stores.{zeros-after}
 use Rattle.rules.specs.Numbers.{largest}
 use Rattle.rules.specs.Shares.{each}
 use Rattle.rules.specs.Standard.{H0}
@@ -19,7 +20,6 @@ use Rattle.rules.specs.Sha1.{public, publics, chainRoom, used, chainOf}
 use Rattle.rules.specs.Hmac.{marked}
 use Rattle.rules.proofs.Openings.{each-append}
 use Rattle.rules.proofs.Keys.{each-zeros}
-use Rattle.sha1.proofs.Parts.{zeros-after}
 
 -- word w of m has its place
 pub place-room : (m n w : ℕ) → w < m → w * n + n ≤ m * n

@@ -13,7 +13,7 @@ use lib.Seq.{drop-append-add}
 use lib.Seq.{take-nil}
 use mir.Syntax.{w64}
 use mir.Val.{Fits}
-use Rattle.words.proofs.Stores.{filled-next, filled-end, set-last, lent-zeros}
+use Rattle.words.proofs.Stores.{filled-next, filled-end, set-last, lent-zeros, zeros-after}
 use Rattle.rules.specs.Supply.{next, opened, split}
 use Rattle.rules.specs.Hash.{Hash, numberOf, filled}
 use Rattle.rules.specs.Standard.{SHA1}
@@ -22,7 +22,6 @@ use Rattle.rules.specs.Hmac.{splits, keyWords, blocks}
 use Rattle.rules.proofs.Loops.{Run}
 use Rattle.rules.proofs.Rule.{next-rule}
 use Rattle.rules.proofs.Bytes.{length-words}
-use Rattle.sha1.proofs.Parts.{zeros-after}
 use Rattle.hash.proofs.Blocks.{block-room}
 use Rattle.key_words.specs.Held.{lastShares, held}
 use Rattle.key_words.proofs.Words.{word-is}

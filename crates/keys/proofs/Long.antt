@@ -8,7 +8,7 @@ use lib.Bits.{bitXor}
 use lib.ListN.{length, take, drop, replicate, length-replicate}
 use lib.Seq.{take-at}
 use borrow.Author.Tests.{le-leb, lt-leb}
-use Rattle.words.proofs.Stores.{lent-zeros}
+use Rattle.words.proofs.Stores.{lent-zeros, zeros-after}
 use Rattle.rules.specs.Numbers.{largest, longestKey}
 use Rattle.rules.specs.Hash.{Hash, ending, filled}
 use Rattle.rules.specs.Standard.{SHA1, H0}
@@ -21,7 +21,7 @@ use Rattle.rules.proofs.Bytes.{length-words}
 use Rattle.rules.proofs.Hashes.{ending-length}
 use Rattle.rules.proofs.Tags.{sha1-proper}
 use Rattle.rules.proofs.Keys.{pad-blocks, short-draws, long-draws}
-use Rattle.sha1.proofs.Parts.{used-lent, zeros-after}
+use Rattle.sha1.proofs.Parts.{used-lent}
 use Rattle.hash.specs.Hash.{hash}
 use Rattle.hash.proofs.Publics.{publics-part, start-used}
 use Rattle.hash.proofs.Blocks.{Left, blocks-begin}

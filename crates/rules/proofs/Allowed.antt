@@ -1,11 +1,13 @@
 -- The share counts that calls take, case by case.
-use Prim.Native.Nat.{ℕ, _≤_, _<_}
-use mathlib.Core.Path.{_≡_, refl, sym, subst}
+use Prim.Native.Nat.{ℕ, zero, suc, _-_, _≤_, _<_}
+use mathlib.Core.Path.{_≡_, refl, sym, ap, subst, _∙_}
 use mathlib.Core.Bool.{Bool, true, false}
 use native.Mathlib.Omega.{arith}
+use lib.Bits.{bitAnd}
 use lib.Dec.{eqb, leb}
-use borrow.Author.Tests.{eqb-true, leb-true}
+use borrow.Author.Tests.{eqb-true, leb-true, leb-false}
 use Rattle.rules.specs.Numbers.{largest, either, both, power, allowed}
+use Rattle.rules.specs.Convert.{powerTo, powerOfTwo}
 
 pub data Taken : ℕ → Type 0 where
   one : Taken 1
@@ -47,3 +49,38 @@ some n h = within n h .0
 
 pub few : (n : ℕ) → allowed n ≡ true → n ≤ largest
 few n h = within n h .1
+
+-- ---- what is tested of every count up to m holds of each
+abbrev every : (ℕ → Bool) → ℕ → Bool
+every f zero = f 0
+every f (suc m) = both (every f m) (f (suc m))
+
+pub each-to : (f : ℕ → Bool) (m : ℕ) → every f m ≡ true → (n : ℕ) → n ≤ m → f n ≡ true
+each-to f zero h n l = let e : n ≡ 0 = omega arith in rw e h
+each-to f (suc m) h n l = go (leb n m) refl (each-to f m (both-true (every f m) (f (suc m)) h .0) n)
+  where
+    go : (b : Bool) → leb n m ≡ b → (n ≤ m → f n ≡ true) → f n ≡ true
+    go true e below = below (leb-true n m e)
+    go false e below =
+        let past = leb-false n m e in
+        let last : n ≡ suc m = omega arith in
+        rw last (both-true (every f m) (f (suc m)) h .1)
+
+same : Bool → Bool → Bool
+same true b = b
+same false true = false
+same false false = true
+
+same-true : (a b : Bool) → same a b ≡ true → a ≡ b
+unfolding same
+same-true true b h = sym h
+same-true false true h = h
+same-true false false h = refl
+
+-- a power of two has one bit
+pub one-bit : (n : ℕ) → 0 < n → n ≤ largest → eqb (bitAnd n (n - 1)) 0 ≡ powerOfTwo n
+unfolding same powerTo
+one-bit zero h l = absurd (omega arith)
+one-bit (suc m) h l =
+    let e : suc m - 1 ≡ m = omega arith in
+    rw e (same-true _ _ (each-to (λ m. same (eqb (bitAnd (suc m) m) 0) (powerOfTwo (suc m))) 15 refl m (omega arith)))

@@ -70,7 +70,7 @@ power-above zero = omega arith
 power-above (suc p) = omega (arith, power-above p, pow-suc 2 p, pow-pos p)
 
 -- above one they are even
-power-even : (n : ℕ) → powerOfTwo n ≡ true → 1 < n → n ≡ n / 2 * 2
+pub power-even : (n : ℕ) → powerOfTwo n ≡ true → 1 < n → n ≡ n / 2 * 2
 power-even n h more = go (power-of n n h .0) (power-of n n h .1)
   where
     go : (p : ℕ) → n ≡ 2 ^ p → n ≡ n / 2 * 2

@@ -4,8 +4,7 @@ use mathlib.Core.Path.{_≡_, sym, ap, _∙_}
 use mathlib.Core.List.{List, [], _++_, map, append-nil}
 use native.Mathlib.Nat.{add-mul, sub-zero}
 use native.Mathlib.Omega.{arith}
-use lib.ListN.{length, take, drop, replicate, length-drop, drop-of-length-le, length-replicate}
-use lib.ListN.{replicate-append-replicate}
+use lib.ListN.{length, take, drop, replicate, length-drop, drop-of-length-le}
 use lib.Seq.{length-take-le, take-at, drop-at, take-add, drop-drop}
 use Rattle.rules.specs.Numbers.{largest}
 use Rattle.rules.specs.Shares.{add}
@@ -175,17 +174,7 @@ pub copy-made : (k : ℕ) (add : Adder) (n : ℕ) (h block u ws : List ℕ) (at 
     → compress k add n h u ws at ≡ o → compress k add n h block ws at ≡ o
 copy-made k add n h block u ws at o e g = rw e at g
 
--- ---- for the crates above: the used words lent, and zeros behind the first n of them
+-- ---- for the crates above: the used words lent
 pub used-lent : (n : ℕ) (chain : List ℕ) → take (5 * n - 0) chain ≡ used n chain
 unfolding used
 used-lent n chain = rw (sub-zero (5 * n))
-
-pub zeros-after : (m n : ℕ) → n ≤ m → drop {A = ℕ} (n - 0) (replicate m 0) ≡ replicate (m - n) 0
-zeros-after m n h =
-    rw (sub-zero n)
-    (ap (λ k. drop n (replicate k 0)) whole
-    ∙ ap (drop n) (sym (replicate-append-replicate n (m - n) 0))
-    ∙ drop-at (replicate n 0) (replicate (m - n) 0) n (length-replicate n 0))
-  where
-    whole : m ≡ n + (m - n)
-    whole = omega arith

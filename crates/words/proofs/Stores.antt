@@ -7,7 +7,7 @@ use native.Mathlib.Numerals.{add-one}
 use native.Mathlib.Omega.{arith}
 use lib.ListN.{length, getD, take, drop, set, replicate}
 use lib.ListN.{length-append, length-replicate, replicate-append-replicate, drop-of-length-le}
-use lib.Seq.{sets, sets-eq, set-at, drop-cons, take-at, take-all, take-suc, take-suc-set, length-take-le}
+use lib.Seq.{sets, sets-eq, set-at, drop-cons, take-at, drop-at, take-all, take-suc, take-suc-set, length-take-le}
 
 -- one store more, of what is still to be stored
 pub sets-next : (l s e : List ℕ) (at i : ℕ) → i < length s
@@ -49,12 +49,19 @@ set-last m s v last e f =
     let one : drop (suc last) s ≡ [] = drop-of-length-le s {i = suc last} (omega arith) in
     rw (drop-cons s last 0 (omega arith), one, set-at m (getD s last 0) [] v last e)
 
--- ---- the first n of m zeros, lent
+-- ---- the first n of m zeros, lent, and those after them
 module _ (m n : ℕ) (room : n ≤ m) where
+  parts : replicate {A = ℕ} m 0 ≡ replicate n 0 ++ replicate (m - n) 0
+  parts =
+      let whole : m ≡ n + (m - n) = omega arith in
+      ap (λ k. replicate k 0) whole ∙ sym (replicate-append-replicate n (m - n) 0)
+
   pub lent-zeros : take {A = ℕ} (n - 0) (replicate m 0) ≡ replicate n 0
   lent-zeros =
-      let whole : m ≡ n + (m - n) = omega arith in
       rw (sub-zero n)
-      (ap (λ k. take n (replicate k 0)) whole
-      ∙ ap (take n) (sym (replicate-append-replicate n (m - n) 0))
-      ∙ take-at (replicate n 0) (replicate (m - n) 0) n (length-replicate n 0))
+      (ap (take n) parts ∙ take-at (replicate n 0) (replicate (m - n) 0) n (length-replicate n 0))
+
+  pub zeros-after : drop {A = ℕ} (n - 0) (replicate m 0) ≡ replicate (m - n) 0
+  zeros-after =
+      rw (sub-zero n)
+      (ap (drop n) parts ∙ drop-at (replicate n 0) (replicate (m - n) 0) n (length-replicate n 0))

@@ -8,8 +8,8 @@ use Rattle.adder.proofs.add_in.Tie as tie
 add-in-requires : tie.Need-add-in-requires
 add-in-requires c κs = (c .before .before .is-few .ensures .0 (c .before .if1 .taken), search needs, search needs)
 
-add-largest-requires : tie.Need-add-largest-requires
-add-largest-requires c κs =
+add-eight-requires : tie.Need-add-eight-requires
+add-eight-requires c κs =
     let all = sym (c .before .if2 .taken) in
     (search needs, search needs, search (add-room, all))
 
@@ -24,7 +24,7 @@ add-in-spec =
     add-in-requires
     (λ c. search needs)
     (λ c. search needs)
-    add-largest-requires
+    add-eight-requires
     (λ c. search needs)
     returns-2
     (λ c κs. search needs)

@@ -1,5 +1,5 @@
 -- Three functions that call each other, n being the count: shares_to_bool calls halves_to_bool at n, that calls
--- half_to_bool at n, and that calls shares_to_bool at n / 2. So the measures are 3n, 3n − 1 and 3(n / 2) + 1.
+-- half_to_bool at n, and that calls shares_to_bool at one half. So the measures are 3n, 3n − 1 and 3(n − n/2) + 1.
 use Prim.Native.Nat.{ℕ, _+_, _-_, _*_, _/_, _<_}
 use borrow.Author.Needs.{needs}
 use borrow.Fn.Kinds.{In}
@@ -16,12 +16,12 @@ use Rattle.convert.proofs.shares_to_bool.Kinds as shares-kinds
 use Rattle.convert.proofs.+half_to_bool+halves_to_bool+shares_to_bool.Lts-shares_to_bool as shares-lts
 use Rattle.convert.proofs.add_halves.Reads as add-halves
 use Rattle.shares.proofs.copy.Reads as copy
-use Rattle.shares.proofs.expand_at.Reads as expand-at
+use Rattle.convert.proofs.widen_at.Reads as widen-at
 use Rattle.convert.proofs.+half_to_bool+halves_to_bool+shares_to_bool.{statement}
 use Rattle.convert.proofs.+half_to_bool+halves_to_bool+shares_to_bool.Tie.{close}
 
 abbrev μ-half : Measures 3 half-kinds.ps ℕ
-μ-half κs a = 3 * (a .0 / 2) + 1
+μ-half κs a = 3 * (a .0 - a .0 / 2) + 1
 
 abbrev μ-halves : Measures 3 halves-kinds.ps ℕ
 μ-halves κs a = 3 * a .0 - 1
@@ -52,7 +52,7 @@ pub +half-to-bool+halves-to-bool+shares-to-bool-spec : {M : Type 1} → statemen
 +half-to-bool+halves-to-bool+shares-to-bool-spec =
     close μ-half μ-halves μ-shares
     -- half_to_bool
-    (λ t. half-lts.spec (shares-below t, shares.Post, expand-at.Asked, expand-at.Learnt) (half-at t) half.Post
+    (λ t. half-lts.spec (shares-below t, shares.Post, widen-at.Asked, widen-at.Learnt) (half-at t) half.Post
     (λ c. search needs)
     (λ c. search needs)
     (λ c. search needs)
