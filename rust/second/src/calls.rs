@@ -1,7 +1,10 @@
 //! The public calls for n shares: the tests of section 3 in their order, then the rule. Every
 //! refusal reports 0 words drawn and leaves the output as it came.
 
-use crate::numbers::{first_refusal, Answer, Chain, Compressed, Opened, KEY_LIMIT, MESSAGE_LIMIT};
+use crate::numbers::{
+    allowed_for_short_conversion, first_refusal, Answer, Chain, Compressed, Opened, KEY_LIMIT,
+    MESSAGE_LIMIT,
+};
 use crate::supply::Supply;
 use crate::{rules, sha1};
 
@@ -19,14 +22,13 @@ fn call<T: Copy>(
         return Answer { number, drawn: 0 };
     }
     let mut supply = Supply::new(words);
-    let Some(result) = rule(&mut supply) else {
-        return Answer {
-            number: 5,
-            drawn: 0,
-        };
+    let (number, drawn) = match rule(&mut supply) {
+        Some(result) => {
+            output.copy_from_slice(&result);
+            (0, supply.drawn())
+        }
+        None => (5, 0),
     };
-    output.copy_from_slice(&result);
-    let drawn = supply.drawn();
     Answer { number, drawn }
 }
 
@@ -82,7 +84,7 @@ pub fn add(n: usize, x: &[u32], y: &[u32], z: &mut [u32], words: &[u32]) -> Answ
     call(n, &tests, z, words, |supply| rules::add(x, y, supply))
 }
 
-/// Turns n arithmetic shares into n Boolean ones (section 5). Tests 1, 2, 3, 5.
+/// Turns n arithmetic shares into n Boolean ones (section 5 and request (vi)). Tests 1, 2, 3, 5.
 pub fn a2b(n: usize, a: &[u32], x: &mut [u32], words: &[u32]) -> Answer {
     let tests = [(2, a.len() != n), (3, x.len() != n)];
     call(n, &tests, x, words, |supply| rules::a2b(a, supply))
@@ -95,10 +97,14 @@ pub fn b2a(n: usize, x: &[u32], a: &mut [u32], words: &[u32]) -> Answer {
     call(n, &tests, a, words, |supply| rules::b2a(x, supply))
 }
 
-/// Turns n Boolean shares into n arithmetic ones "without a carry loop" (request (iv)). Tests 1, 2,
-/// 3, 5.
+/// Turns n Boolean shares into n arithmetic ones "without a carry loop" (request (iv)), n being 1, 2,
+/// 4 or 8 still. Tests 1, 2, 3, 5.
 pub fn b2a_short(n: usize, x: &[u32], a: &mut [u32], words: &[u32]) -> Answer {
-    let tests = [(2, x.len() != n), (3, a.len() != n)];
+    let tests = [
+        (1, !allowed_for_short_conversion(n)),
+        (2, x.len() != n),
+        (3, a.len() != n),
+    ];
     call(n, &tests, a, words, |supply| rules::b2a_short(x, supply))
 }
 
@@ -114,8 +120,8 @@ pub fn split_key(n: usize, key: &[u8], shares: &mut [u32], words: &[u32]) -> Ans
     })
 }
 
-/// Compresses a block of 16n words into the chain (section 6): of its 40 words the first 5n are
-/// used, "the rest are not looked at on entry and are 0 in an accepted answer". Tests 1, 2, 5.
+/// Compresses a block of 16n words into the chain (section 6): of its words the first 5n are used,
+/// "the rest are not looked at on entry and are 0 in an accepted answer". Tests 1, 2, 5.
 pub fn sha1_compress(n: usize, chain: Chain, block: &[u32], words: &[u32]) -> Compressed {
     let tests = [(2, block.len() != n.saturating_mul(16))];
     let mut after = chain;
@@ -131,8 +137,8 @@ pub fn sha1_compress(n: usize, chain: Chain, block: &[u32], words: &[u32]) -> Co
     }
 }
 
-/// The HMAC-SHA-1 tag, 20 bytes, of a message of up to 4,096 bytes under a key lent as 16n words
-/// (section 6). Tests 1, 2, 3, 4, 5.
+/// The HMAC-SHA-1 tag, 20 bytes, of a message of up to 65,536 bytes (request (vi)) under a key lent
+/// as 16n words (section 6). Tests 1, 2, 3, 4, 5.
 pub fn hmac_sha1(n: usize, key: &[u32], message: &[u8], tag: &mut [u8], words: &[u32]) -> Answer {
     let tests = [
         (2, key.len() != n.saturating_mul(16)),

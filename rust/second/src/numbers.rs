@@ -1,8 +1,15 @@
 //! The numbers handed back (section 3, and number 6 of request (i)), and the records that carry
 //! them.
 
-/// Section 3: a message has up to 4,096 bytes. Request (i): "The 4,096 limit counts all pieces".
-pub(crate) const MESSAGE_LIMIT: u64 = 4096;
+/// Request (vi): "Allow every share count from 1 to 16".
+const SHARE_LIMIT: usize = 16;
+
+/// Request (vi): "The chain record grows to 80 words", five in as many shares as are allowed.
+const CHAIN_WORDS: usize = 5 * SHARE_LIMIT;
+
+/// Request (vi): "messages of 65,536 bytes, streamed ones included". The limit "counts all pieces"
+/// (request (i)).
+pub(crate) const MESSAGE_LIMIT: u64 = 65_536;
 
 /// Request (iii): "Splitting accepts up to 1,024 bytes."
 pub(crate) const KEY_LIMIT: usize = 1024;
@@ -25,11 +32,18 @@ pub struct Opened {
     pub word: u32,
 }
 
-/// Section 6: "The masked chain value is one record of 40 words, of which 5n are used".
+/// Section 6: "The masked chain value is one record", of whose words "5n are used".
 #[derive(Debug, Clone, Copy, PartialEq, Eq)]
 pub struct Chain {
     /// Share i of chain word w, both from 0, stands at place w·n + i.
-    pub shares: [u32; 40],
+    pub shares: [u32; CHAIN_WORDS],
+}
+
+impl Chain {
+    /// A record with no word used yet.
+    pub(crate) const ZEROS: Chain = Chain {
+        shares: [0; CHAIN_WORDS],
+    };
 }
 
 /// What a compression hands back.
@@ -67,8 +81,8 @@ impl State {
         n: 0,
         bytes: 0,
         finished: 0,
-        inner: Chain { shares: [0; 40] },
-        outer: Chain { shares: [0; 40] },
+        inner: Chain::ZEROS,
+        outer: Chain::ZEROS,
         tail: [0; 64],
     };
 }
@@ -84,9 +98,14 @@ pub struct Streamed {
     pub state: State,
 }
 
-/// Section 3, number 1: whether the share count is 1, 2, 4 or 8.
+/// Request (vi): "Number 1 now means 0 or over 16".
 fn allowed(n: usize) -> bool {
-    n == 1 || n == 2 || n == 4 || n == 8
+    (1..=SHARE_LIMIT).contains(&n)
+}
+
+/// Request (vi): "(iv) keeps its four counts".
+pub(crate) fn allowed_for_short_conversion(n: usize) -> bool {
+    [1, 2, 4, 8].contains(&n)
 }
 
 /// The first number that applies, or 0.
@@ -102,11 +121,13 @@ fn first_that_applies(tests: &[(u32, bool)]) -> u32 {
 /// Section 3, tests 1 to 4: the first number that applies, or 0. A call lists what it takes, in
 /// the order of the numbers, each number with whether it applies:
 ///
-/// - 1, tested here for every call: the share count isn't 1, 2, 4 or 8;
+/// - 1, tested here for every call: the share count is 0 or over 16 (request (vi)); a call with
+///   fewer counts lists its own test of them first;
 /// - 2: an input slice has not exactly the length that the count asks for;
 /// - 3: an output slice or record has not exactly its length;
-/// - 4: the message is over 4,096 bytes, or the key given for splitting is over 1,024 (request
-///   (iii): "Number 4 for keys now starts at 1,025").
+/// - 4: the message is over 65,536 bytes (request (vi): "Number 4 for messages begins at 65,537"),
+///   or the key given for splitting is over 1,024 (request (iii): "Number 4 for keys now starts at
+///   1,025").
 pub(crate) fn first_refusal(n: usize, tests: &[(u32, bool)]) -> u32 {
     if !allowed(n) {
         return 1;

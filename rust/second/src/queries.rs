@@ -1,9 +1,11 @@
 //! The queries: how many words a call will draw, by the formulas of sections 2, 5 and 6 and the
-//! words of requests (i), (iii), (iv) and (v). Each gives number 0 and the count, or the call's
+//! words of requests (i), (iii), (iv), (v) and (vi). Each gives number 0 and the count, or the call's
 //! refusal 1, 4 or 6 and the count 0.
 
-use crate::numbers::{first_refusal, first_state_refusal, would_pass_the_limit};
-use crate::numbers::{Answer, State, KEY_LIMIT, MESSAGE_LIMIT};
+use crate::numbers::{
+    allowed_for_short_conversion, first_refusal, first_state_refusal, would_pass_the_limit, Answer,
+    State, KEY_LIMIT, MESSAGE_LIMIT,
+};
 
 /// The query of a call that takes a share count.
 fn query(n: usize, tests: &[(u32, bool)], formula: impl FnOnce(u64) -> u64) -> Answer {
@@ -34,12 +36,15 @@ fn addition(n: u64) -> u64 {
     16 * n * (n - 1)
 }
 
-/// Section 5: "W(1) = 0 and W(n) = 2W(n/2) + n + 16n(n−1)".
+/// Section 5: "W(1) = 0 and W(n) = 2W(n/2) + n + 16n(n−1)". Request (vi), for a count that isn't a
+/// power of two: "floor(n/2) shares left and the rest right", each refreshed with n−1 words.
 fn conversion(n: u64) -> u64 {
-    match n {
-        1 => 0,
-        _ => 2 * conversion(n / 2) + n + addition(n),
+    if n == 1 {
+        return 0;
     }
+    let left = n / 2;
+    let widening = if n.is_power_of_two() { n } else { 2 * (n - 1) };
+    conversion(left) + conversion(n - left) + widening + addition(n)
 }
 
 /// Request (iv): "V(1) = 0 and V(n) = 3n−2 + 2V(n−1)".
@@ -80,7 +85,7 @@ pub fn add_words(n: usize) -> Answer {
     query(n, &[], addition)
 }
 
-/// What `a2b` draws (section 5): W(n).
+/// What `a2b` draws (section 5 and request (vi)): W(n).
 pub fn a2b_words(n: usize) -> Answer {
     query(n, &[], conversion)
 }
@@ -93,7 +98,8 @@ pub fn b2a_words(n: usize) -> Answer {
 
 /// What `b2a_short` draws (request (iv)): V(n).
 pub fn b2a_short_words(n: usize) -> Answer {
-    query(n, &[], short_conversion)
+    let tests = [(1, !allowed_for_short_conversion(n))];
+    query(n, &tests, short_conversion)
 }
 
 /// What `split_key` draws: 16(n−1) for a key of up to 64 bytes (section 2), and for a longer one
@@ -102,7 +108,7 @@ pub fn split_key_words(n: usize, key_len: usize) -> Answer {
     let length = key_len as u64;
     query(n, &[(4, key_len > KEY_LIMIT)], |n| match length {
         0..=64 => 16 * (n - 1),
-        _ => length.div_ceil(4) * (n - 1) + ((length + 8) / 64 + 1) * compression(n),
+        _ => (length + 3) / 4 * (n - 1) + ((length + 8) / 64 + 1) * compression(n),
     })
 }
 

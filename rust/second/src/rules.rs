@@ -1,6 +1,6 @@
-//! The rules for n shares (sections 2 and 5, and requests (iv) and (v)), at k = 32. The slices lent
-//! to a rule have the lengths it asks for, and a rule gives nothing when the supply runs out under
-//! it.
+//! The rules for n shares (sections 2 and 5, and requests (iv), (v) and (vi)), at k = 32. The slices
+//! lent to a rule have the lengths it asks for, and a rule gives nothing when the supply runs out
+//! under it.
 
 use crate::supply::Supply;
 
@@ -62,7 +62,7 @@ pub(crate) fn refresh(x: &[u32], supply: &mut Supply) -> Option<Vec<u32>> {
 }
 
 /// Section 5's own refresh: "for i = 1 to n−1 draw s; yi = xi ⊕ s, and s is XORed into share n".
-/// Request (v): "The old rule stays inside (iv) under its own name."
+/// Request (v): "The old rule stays inside (iv) under its own name." Request (vi) takes it too.
 pub(crate) fn refresh_with_last(x: &[u32], supply: &mut Supply) -> Option<Vec<u32>> {
     let n = x.len();
     let mut y = x.to_vec();
@@ -113,17 +113,29 @@ pub(crate) fn add(x: &[u32], y: &[u32], supply: &mut Supply) -> Option<Vec<u32>>
 }
 
 /// Section 5, arithmetic to Boolean: "one share stays. Otherwise convert the left half and expand
-/// it, then the right half and expand it, then add."
+/// it, then the right half and expand it, then add." Request (vi): "floor(n/2) shares left and the
+/// rest right".
 pub(crate) fn a2b(a: &[u32], supply: &mut Supply) -> Option<Vec<u32>> {
-    if a.len() == 1 {
+    let n = a.len();
+    if n == 1 {
         return Some(a.to_vec());
     }
-    let (left_half, right_half) = a.split_at(a.len() / 2);
-    let left = a2b(left_half, supply)?;
-    let left = expand(&left, supply)?;
-    let right = a2b(right_half, supply)?;
-    let right = expand(&right, supply)?;
+    let (left_half, right_half) = a.split_at(n / 2);
+    let left = a2b_half(n, left_half, supply)?;
+    let right = a2b_half(n, right_half, supply)?;
     add(&left, &right, supply)
+}
+
+/// A half of n arithmetic shares, converted by the rule of its own count and brought to n shares: by
+/// expanding when n is a power of two; otherwise request (vi) "appends zero shares to each result up
+/// to n, and refreshes each by the old rule".
+fn a2b_half(n: usize, half: &[u32], supply: &mut Supply) -> Option<Vec<u32>> {
+    let mut converted = a2b(half, supply)?;
+    if n.is_power_of_two() {
+        return expand(&converted, supply);
+    }
+    converted.resize(n, 0);
+    refresh_with_last(&converted, supply)
 }
 
 /// Section 5, Boolean to arithmetic: "draw A1 … A(n−1); convert −A1, …, −A(n−1), 0 to Boolean;

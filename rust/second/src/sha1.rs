@@ -32,15 +32,15 @@ pub(crate) fn shared_words(n: usize, slice: &[u32]) -> Vec<Shared> {
     slice.chunks(n).map(|shares| shares.to_vec()).collect()
 }
 
-/// The chain words of a record. Section 6: of its 40 words "5n are used; the rest are not looked at
-/// on entry".
+/// The chain words of a record. Section 6: of its words "5n are used; the rest are not looked at on
+/// entry".
 pub(crate) fn chain_words(n: usize, chain: &Chain) -> Vec<Shared> {
     shared_words(n, &chain.shares[..5 * n])
 }
 
 /// The record of five chain words. Section 6: the rest "are 0 in an accepted answer".
 pub(crate) fn chain_record(words: &[Shared]) -> Chain {
-    let mut chain = Chain { shares: [0; 40] };
+    let mut chain = Chain::ZEROS;
     for (place, share) in words.concat().into_iter().enumerate() {
         chain.shares[place] = share;
     }
@@ -92,7 +92,7 @@ pub(crate) fn split_key(n: usize, key: &[u8], supply: &mut Supply) -> Option<Vec
 /// filled with zero bytes, and then hashed in shares under their true length". Section 6: "a
 /// padding byte in a word already shared, goes into share 1", "whole words of padding" are public.
 fn long_key_digest(n: usize, key: &[u8], supply: &mut Supply) -> Option<Vec<Shared>> {
-    let length = key.len().next_multiple_of(4);
+    let length = (key.len() + 3) / 4 * 4;
     let mut words = split_bytes(n, key, length, supply)?;
     let padding = padding(key.len() as u64);
     let (in_last_word, whole_words) = padding.split_at(length - key.len());

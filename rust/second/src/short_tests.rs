@@ -1,9 +1,12 @@
 //! Tests of the short conversion (request (iv)): the counts, the steps by hand and by place, the sums
-//! and the refusals. For share counts that the call refuses, the rule is run.
+//! and the refusals. Request (vi) leaves the call its four share counts; for others the rule is run.
 
 use crate::supply::Supply;
 use crate::tests::{done, random_words, refused, sum_of, xor_of, BEFORE, COUNTS, WRONG_COUNTS};
 use crate::*;
+
+/// The share counts that the call does not refuse.
+const SHORT_COUNTS: [usize; 4] = [1, 2, 4, 8];
 
 /// V(n) in closed form.
 fn words_for(n: usize) -> usize {
@@ -65,7 +68,7 @@ fn by_place(x: &[u32], words: &[u32]) -> Vec<u32> {
 
 #[test]
 fn counts() {
-    let queries = COUNTS.map(b2a_short_words);
+    let queries = SHORT_COUNTS.map(b2a_short_words);
     assert_eq!(queries, [done(0), done(4), done(40), done(868)]);
     let all: Vec<usize> = (1..=8).map(words_for).collect();
     assert_eq!(all, [0, 4, 15, 40, 93, 202, 423, 868]);
@@ -155,16 +158,21 @@ fn words_are_drawn_once_each_from_the_front() {
 
 #[test]
 fn the_call_is_the_rule() {
-    for n in COUNTS {
+    for n in SHORT_COUNTS {
+        let drawn = words_for(n);
         let x = random_words(1, n as u64);
-        let words = random_words(2, words_for(n) as u64);
-        assert_eq!(b2a_short_done(n, &x, 2), convert(&x, &words));
+        let words = random_words(2, drawn as u64 + 5);
+        let expected = convert(&x, &words[..drawn]);
+        assert_eq!(b2a_short_done(n, &x, 2), expected);
+        let mut a = vec![BEFORE; n];
+        assert_eq!(b2a_short(n, &x, &mut a, &words), done(drawn as u64));
+        assert_eq!(a, expected);
     }
 }
 
 #[test]
 fn both_ways_open_to_the_same_secret() {
-    for n in COUNTS {
+    for n in SHORT_COUNTS {
         for seed in 1..20 {
             let x = random_words(seed, n as u64);
             let short = b2a_short_done(n, &x, seed + 100);
@@ -186,16 +194,33 @@ fn is_refused(number: u32, n: usize, input: usize, output: usize, words: &[u32])
 }
 
 #[test]
-fn refusals_come_in_order_and_change_nothing() {
+fn share_counts_are_refused_first() {
     let enough = random_words(1, 1000);
-    for n in WRONG_COUNTS {
-        assert_eq!(b2a_short_words(n), refused(1));
-        for (input, output) in [(0, 0), (1, 2), (2, 2), (3, 3), (5, 5), (16, 16)] {
-            is_refused(1, n, input, output, &[]);
-            is_refused(1, n, input, output, &enough);
+    for n in COUNTS.into_iter().chain(WRONG_COUNTS) {
+        if !SHORT_COUNTS.contains(&n) {
+            assert_eq!(b2a_short_words(n), refused(1));
+            for (input, output) in [(0, 0), (1, 2), (2, 2), (8, 8)] {
+                is_refused(1, n, input, output, &[]);
+                is_refused(1, n, input, output, &enough);
+            }
         }
     }
-    for n in COUNTS {
+}
+
+#[test]
+fn counts_of_the_other_calls_stay_refused_here() {
+    for n in [3, 5, 6, 7, 9, 10, 11, 12, 13, 14, 15, 16] {
+        assert_eq!(b2a_words(n).number, 0);
+        assert_eq!(b2a_short_words(n), refused(1));
+        is_refused(1, n, n, n, &[]);
+        is_refused(1, n, n, n, &random_words(1, words_for(n) as u64));
+    }
+}
+
+#[test]
+fn lengths_and_missing_words_are_refused_in_order() {
+    let enough = random_words(1, 1000);
+    for n in SHORT_COUNTS {
         for other in [0, n - 1, n + 1, 2 * n, 16] {
             if other != n {
                 for words in [&[], &enough[..]] {

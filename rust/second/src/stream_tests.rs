@@ -1,33 +1,41 @@
-//! Tests of streaming (request (i)): every cut, the order of the draws and their counts, what is
-//! not read and what is cleared, the limits, and every refusal with what it leaves.
+//! Tests of streaming (request (i), with the share counts and the limit of request (vi)): every cut,
+//! the order of the draws and their counts, what is not read and what is cleared, the limits, and
+//! every refusal with what it leaves.
 
 use crate::tests::{
-    done, hmac_done, plain_hmac, random_bytes, random_words, refused, split_key_done, xor_of,
-    COUNTS, START, WRONG_COUNTS,
+    compress_done, done, hex, hmac_done, opened_bytes, plain_hmac, public, random_bytes,
+    random_chain, random_words, refused, split_key_done, start_chain, with_pad, words_of,
+};
+use crate::tests::{
+    CHAIN_WORDS, COUNTS, DIGEST_PADDING, FEW_COUNTS, LONGEST, RFC_2202, WRONG_COUNTS,
 };
 use crate::*;
+
+/// The limit as a count of bytes fed.
+const LIMIT: u64 = LONGEST as u64;
 
 /// The state that a refused start hands back.
 const ZEROS: State = State {
     n: 0,
     bytes: 0,
     finished: 0,
-    inner: Chain { shares: [0; 40] },
-    outer: Chain { shares: [0; 40] },
+    inner: Chain {
+        shares: [0; CHAIN_WORDS],
+    },
+    outer: Chain {
+        shares: [0; CHAIN_WORDS],
+    },
     tail: [0; 64],
 };
 
 /// A made-up state, with pseudo-random words and bytes in every place of its chains and its tail.
 fn made_up(n: usize, bytes: u64, finished: u32, seed: u64) -> State {
-    let chain = |seed| Chain {
-        shares: random_words(seed, 40).try_into().unwrap(),
-    };
     State {
         n,
         bytes,
         finished,
-        inner: chain(seed),
-        outer: chain(seed + 1),
+        inner: random_chain(seed),
+        outer: random_chain(seed + 1),
         tail: random_bytes(seed + 2, 64).try_into().unwrap(),
     }
 }
@@ -119,51 +127,21 @@ fn stream_done(n: usize, key: &[u32], pieces: &[&[u8]], words: &[u32]) -> (State
 
 // The order of the draws, by compressions.
 
-/// Public words in n shares.
-fn public(n: usize, values: &[u32]) -> Vec<u32> {
-    let mut shares = vec![0; values.len() * n];
-    for (w, value) in values.iter().enumerate() {
-        shares[w * n] = *value;
-    }
-    shares
-}
-
-fn public_bytes(n: usize, bytes: &[u8]) -> Vec<u32> {
-    let values: Vec<u32> = bytes
-        .chunks(4)
-        .map(|four| u32::from_be_bytes(four.try_into().unwrap()))
-        .collect();
-    public(n, &values)
-}
-
-fn compress_done(n: usize, chain: Chain, block: &[u32], words: &mut &[u32]) -> Chain {
-    let lent = take(sha1_compress_words(n), words);
-    let answer = sha1_compress(n, chain, block, lent);
-    assert_eq!(answer.number, 0);
-    answer.chain
-}
-
 #[test]
 fn start_does_the_inner_key_block_then_the_outer_one() {
     for n in COUNTS {
         let key = random_words(1, 16 * n as u64);
         let words = random_words(2, 2 * sha1_compress_words(n).drawn);
         let mut rest = &words[..];
-        let mut first = Chain { shares: [0; 40] };
-        first.shares[..5 * n].copy_from_slice(&public(n, &START));
-        let mut chains = Vec::new();
-        for pad in [0x36363636, 0x5c5c5c5c] {
-            let mut block = key.clone();
-            for w in 0..16 {
-                block[w * n] ^= pad;
-            }
-            chains.push(compress_done(n, first, &block, &mut rest));
-        }
+        let [inner, outer] = [0x36363636, 0x5c5c5c5c].map(|pad| {
+            let block = with_pad(n, &key, pad);
+            compress_done(n, start_chain(n), &block, &mut rest)
+        });
         assert!(rest.is_empty());
         let expected = State {
             n,
-            inner: chains[0],
-            outer: chains[1],
+            inner,
+            outer,
             ..ZEROS
         };
         assert_eq!(start_done(n, &key, &mut &words[..]), expected);
@@ -172,7 +150,7 @@ fn start_does_the_inner_key_block_then_the_outer_one() {
 
 #[test]
 fn feed_compresses_each_block_once_it_is_full() {
-    for n in COUNTS {
+    for n in FEW_COUNTS {
         for (bytes, length) in [(0, 63), (0, 64), (1, 63), (63, 1), (127, 67), (70, 186)] {
             let state = made_up(n, bytes, 0, bytes + 5);
             let piece = random_bytes(3, length);
@@ -186,7 +164,7 @@ fn feed_compresses_each_block_once_it_is_full() {
             };
             for block in all.chunks(64) {
                 if block.len() == 64 {
-                    let block = public_bytes(n, block);
+                    let block = public(n, &words_of(block));
                     expected.inner = compress_done(n, expected.inner, &block, &mut rest);
                 } else {
                     expected.tail[..block.len()].copy_from_slice(block);
@@ -199,29 +177,35 @@ fn feed_compresses_each_block_once_it_is_full() {
     }
 }
 
+/// What a finish has to give on a state, by one compression after another.
+fn tag_by_compressions(state: State, words: &mut &[u32]) -> Vec<u8> {
+    let n = state.n;
+    let filled = state.bytes as usize % 64;
+    let mut padded = state.tail[..filled].to_vec();
+    padded.push(0x80);
+    padded.resize(if filled < 56 { 56 } else { 120 }, 0);
+    padded.extend(((64 + state.bytes) * 8).to_be_bytes());
+    let mut inner = state.inner;
+    for block in padded.chunks(64) {
+        inner = compress_done(n, inner, &public(n, &words_of(block)), words);
+    }
+    let mut block = inner.shares[..5 * n].to_vec();
+    block.extend(public(n, &DIGEST_PADDING));
+    let outer = compress_done(n, state.outer, &block, words);
+    opened_bytes(n, &outer.shares[..5 * n])
+}
+
 #[test]
 fn finish_does_the_padding_then_the_outer_digest_block() {
-    for n in COUNTS {
-        for bytes in [0, 1, 55, 56, 63, 64, 119, 120, 4095, 4096] {
+    // From 8,128 bytes on the length padded in takes more than 16 bits.
+    let some = [0, 1, 55, 56, 63, 119, 120, 8127, 8128, LIMIT - 1, LIMIT];
+    for n in FEW_COUNTS {
+        for bytes in some {
             let state = made_up(n, bytes, 0, bytes + 5);
-            let filled = bytes as usize % 64;
-            let mut padded = state.tail[..filled].to_vec();
-            padded.push(0x80);
-            padded.resize(if filled < 56 { 62 } else { 126 }, 0);
-            padded.extend((((64 + bytes) * 8) as u16).to_be_bytes());
-            let blocks = padded.len() as u64 / 64 + 1;
-            let words = random_words(6, blocks * sha1_compress_words(n).drawn);
+            let words = random_words(6, hmac_sha1_finish_words(state).drawn);
             let mut rest = &words[..];
-            let mut inner = state.inner;
-            for block in padded.chunks(64) {
-                inner = compress_done(n, inner, &public_bytes(n, block), &mut rest);
-            }
-            let mut block = inner.shares[..5 * n].to_vec();
-            block.extend(public(n, &[0x80000000, 0, 0, 0, 0, 0, 0, 0, 0, 0, 672]));
-            let outer = compress_done(n, state.outer, &block, &mut rest);
+            let expected = tag_by_compressions(state, &mut rest);
             assert!(rest.is_empty());
-            let opened = outer.shares[..5 * n].chunks(n).map(xor_of);
-            let expected: Vec<u8> = opened.flat_map(|word| word.to_be_bytes()).collect();
             let finished = State {
                 finished: 1,
                 ..state
@@ -238,7 +222,7 @@ fn finish_does_the_padding_then_the_outer_digest_block() {
 fn every_piece_leads_from_its_place_to_the_next() {
     // From the state after any a bytes, feeding bytes a to b leads to the state after b bytes, so
     // any run of pieces, empty ones included, goes through the same states.
-    for (n, length) in [(1, 70), (2, 70), (4, 66), (8, 65)] {
+    for (n, length, step) in [(1, 66, 1), (2, 66, 5), (3, 65, 7), (16, 64, 40)] {
         let message = random_bytes(1, length);
         let key = split_key_done(n, b"any cut", 2);
         let words = random_words(3, hmac_sha1_words(n, length).drawn);
@@ -251,7 +235,6 @@ fn every_piece_leads_from_its_place_to_the_next() {
             reached.push((state, rest));
         }
         assert_eq!(reached[0], (start, rest));
-        let step = if n < 4 { 1 } else { 21 };
         for a in (0..=length).step_by(step) {
             for b in a..=length {
                 let (state, mut rest) = reached[a];
@@ -269,7 +252,7 @@ fn every_piece_leads_from_its_place_to_the_next() {
 
 #[test]
 fn every_cut_in_two_gives_one_end_state_and_the_one_call_tag() {
-    for (n, length, step) in [(1, 130, 1), (2, 66, 3), (4, 57, 8), (8, 64, 16)] {
+    for (n, length, step) in [(1, 66, 1), (2, 66, 11), (3, 57, 19), (11, 64, 64)] {
         let message = random_bytes(5, length);
         let key = split_key_done(n, b"a cut in two", 6);
         let words = random_words(7, hmac_sha1_words(n, length).drawn);
@@ -290,7 +273,7 @@ fn every_cut_in_two_gives_one_end_state_and_the_one_call_tag() {
 #[test]
 fn pieces_of_one_length_give_the_plain_tag() {
     for n in [1, 2] {
-        for length in [0, 1, 55, 56, 63, 64, 65, 119, 120, 128, 200] {
+        for length in [0, 1, 56, 64, 65, 128, 200] {
             let message = random_bytes(8, length);
             let key = split_key_done(n, b"in pieces", 9);
             let words = random_words(10, hmac_sha1_words(n, length).drawn);
@@ -306,22 +289,14 @@ fn pieces_of_one_length_give_the_plain_tag() {
 
 #[test]
 fn rfc_2202_in_pieces() {
-    let cases: [(&[u8], &[u8]); 4] = [
-        (&[0x0b; 20], b"Hi There"),
-        (b"Jefe", b"what do ya want for nothing?"),
-        (&[0xaa; 20], &[0xdd; 50]),
-        (&[0x0c; 20], b"Test With Truncation"),
-    ];
-    let tags = [0xb6173186, 0xeffcdf6a, 0x125d7342, 0x4c1a0342u32];
+    // One case for each count, so that every case comes twice at least.
     for n in COUNTS {
-        for ((key, message), first_word) in cases.into_iter().zip(tags) {
-            let shares = split_key_done(n, key, 1);
-            let words = random_words(2, hmac_sha1_words(n, message.len()).drawn);
-            let pieces: Vec<&[u8]> = message.chunks(7).collect();
-            let (_, tag) = stream_done(n, &shares, &pieces, &words);
-            assert_eq!(tag[..4], first_word.to_be_bytes());
-            assert_eq!(tag, plain_hmac(key, message));
-        }
+        let (key, message, tag) = RFC_2202[n % RFC_2202.len()];
+        let shares = split_key_done(n, key, 1);
+        let words = random_words(2, hmac_sha1_words(n, message.len()).drawn);
+        let pieces: Vec<&[u8]> = message.chunks(7).collect();
+        let (_, bytes) = stream_done(n, &shares, &pieces, &words);
+        assert_eq!(hex(&bytes), tag, "n {n}");
     }
 }
 
@@ -332,9 +307,10 @@ fn counts_of_words() {
     for n in COUNTS {
         let one = sha1_compress_words(n).drawn;
         assert_eq!(hmac_sha1_start_words(n), done(2 * one));
-        for bytes in [0, 1, 55, 56, 63, 64, 65, 127, 4031, 4032, 4095, 4096] {
+        for bytes in [0, 1, 55, 56, 63, 64, LIMIT - 65, LIMIT - 64, LIMIT] {
             let state = made_up(n, bytes, 0, 1);
-            for length in 0..=4096 - bytes {
+            let room = LIMIT - bytes;
+            for length in (0..=room).step_by(61).chain([room]) {
                 let blocks = (bytes + length) / 64 - bytes / 64;
                 let query = hmac_sha1_feed_words(state, length as usize);
                 assert_eq!(query, done(blocks * one));
@@ -347,11 +323,14 @@ fn counts_of_words() {
             assert_eq!(hmac_sha1_words(n, bytes as usize), done(sum));
         }
     }
+    // The largest feed: 1,024 compressions of 5,220·16·15 words.
+    let fed = hmac_sha1_feed_words(made_up(16, 0, 0, 1), LONGEST);
+    assert_eq!(fed, done(1_282_867_200));
 }
 
 #[test]
 fn queries_name_what_is_drawn_and_one_word_less_is_refused() {
-    for n in [2, 4, 8] {
+    for n in [2, 3, 8] {
         let key = random_words(1, 16 * n as u64);
         let piece = random_bytes(2, 66);
         let state = made_up(n, 62, 0, 3);
@@ -385,7 +364,7 @@ fn queries_name_what_is_drawn_and_one_word_less_is_refused() {
 #[test]
 fn a_piece_that_completes_no_block_needs_no_words() {
     for n in COUNTS {
-        for (bytes, length) in [(0, 0), (0, 63), (1, 62), (63, 0), (64, 63), (4096, 0)] {
+        for (bytes, length) in [(0, 0), (0, 63), (1, 62), (63, 0), (64, 63), (LIMIT, 0)] {
             let state = made_up(n, bytes, 0, 1);
             let piece = random_bytes(2, length);
             let streamed = hmac_sha1_feed(state, &piece, &[]);
@@ -404,7 +383,7 @@ fn a_piece_that_completes_no_block_needs_no_words() {
 
 #[test]
 fn junk_is_not_read_and_feed_clears_it() {
-    for n in COUNTS {
+    for n in FEW_COUNTS {
         for (bytes, length) in [(0, 0), (0, 10), (10, 0), (10, 53), (10, 54), (60, 70)] {
             let state = without_junk(made_up(n, bytes, 0, 1));
             let piece = random_bytes(2, length);
@@ -423,7 +402,7 @@ fn junk_is_not_read_and_feed_clears_it() {
 #[test]
 fn an_empty_feed_only_clears() {
     for n in COUNTS {
-        for bytes in [0, 1, 63, 64, 4095, 4096] {
+        for bytes in [0, 1, 63, 64, LIMIT - 1, LIMIT] {
             let state = made_up(n, bytes, 0, bytes + 1);
             let streamed = hmac_sha1_feed(state, &[], &[1, 2, 3]);
             assert_eq!(answer_of(streamed), done(0));
@@ -436,7 +415,7 @@ fn an_empty_feed_only_clears() {
 
 #[test]
 fn junk_is_not_read_and_finish_keeps_it() {
-    for n in COUNTS {
+    for n in FEW_COUNTS {
         for bytes in [0, 10, 60, 64] {
             let state = without_junk(made_up(n, bytes, 0, 1));
             let words = random_words(2, hmac_sha1_finish_words(state).drawn);
@@ -458,7 +437,7 @@ fn junk_is_not_read_and_finish_keeps_it() {
 
 #[test]
 fn a_state_is_a_value_and_can_be_finished_again() {
-    for n in COUNTS {
+    for n in FEW_COUNTS {
         let message = random_bytes(1, 80);
         let key = split_key_done(n, b"twice", 2);
         let words = random_words(3, hmac_sha1_words(n, 80).drawn);
@@ -478,13 +457,13 @@ fn a_state_is_a_value_and_can_be_finished_again() {
 
 #[test]
 fn after_finish_everything_is_refused() {
-    for n in COUNTS {
+    for n in FEW_COUNTS {
         let words = random_words(1, 4 * sha1_compress_words(n).drawn);
+        let (mut state, _) = finish_done(made_up(n, 20, 0, 2), &mut &words[..]);
+        assert_eq!(state.finished, 1);
         for mark in [1, 2, 0x80000000, u32::MAX] {
-            let (mut state, _) = finish_done(made_up(n, 20, 0, 2), &mut &words[..]);
-            assert_eq!(state.finished, 1);
             state.finished = mark;
-            for length in [0, 44, 4076, 4077] {
+            for length in [0, 44, LONGEST - 20, LONGEST - 19] {
                 let piece = vec![7; length];
                 assert_eq!(hmac_sha1_feed(state, &piece, &words), left(6, state));
                 assert_eq!(hmac_sha1_feed(state, &piece, &[]), left(6, state));
@@ -501,46 +480,42 @@ fn after_finish_everything_is_refused() {
 
 #[test]
 fn the_limit_counts_all_pieces() {
-    let message = random_bytes(1, 4097);
-    for n in [1, 2] {
-        let key = split_key_done(n, b"limit", 2);
-        let words = random_words(3, hmac_sha1_words(n, 4096).drawn);
-        let mut rest = &words[..];
-        let mut state = start_done(n, &key, &mut rest);
-        for piece in message[..4000].chunks(999) {
-            state = feed_done(state, piece, &mut rest);
-        }
-        let over = hmac_sha1_feed(state, &message[4000..], rest);
-        assert_eq!(over, left(4, state));
-        let state = feed_done(state, &message[4000..4096], &mut rest);
-        assert_eq!(state.bytes, 4096);
-        assert_eq!(feed_done(state, &[], &mut rest), state);
-        let one_more = hmac_sha1_feed(state, &message[4096..], rest);
-        assert_eq!(one_more, left(4, state));
-        let (end, tag) = finish_done(state, &mut rest);
-        assert!(rest.is_empty());
-        assert_eq!((end.bytes, end.finished), (4096, 1));
-        assert_eq!(tag, plain_hmac(b"limit", &message[..4096]));
+    let message = random_bytes(1, LONGEST + 1);
+    let cut = LONGEST - 96;
+    let key = split_key_done(1, b"limit", 2);
+    let mut state = start_done(1, &key, &mut &[][..]);
+    for piece in message[..cut].chunks(999) {
+        state = feed_done(state, piece, &mut &[][..]);
     }
+    let over = hmac_sha1_feed(state, &message[cut..], &[]);
+    assert_eq!(over, left(4, state));
+    let state = feed_done(state, &message[cut..LONGEST], &mut &[][..]);
+    assert_eq!(state.bytes, LIMIT);
+    assert_eq!(feed_done(state, &[], &mut &[][..]), state);
+    let one_more = hmac_sha1_feed(state, &message[LONGEST..], &[]);
+    assert_eq!(one_more, left(4, state));
+    let (end, tag) = finish_done(state, &mut &[][..]);
+    assert_eq!((end.bytes, end.finished), (LIMIT, 1));
+    assert_eq!(tag, plain_hmac(b"limit", &message[..LONGEST]));
 }
 
 #[test]
 fn lengths_at_the_limit() {
-    let message = random_bytes(1, 4097);
+    let message = random_bytes(1, LONGEST + 1);
     for n in COUNTS {
-        for bytes in [0, 1, 4000, 4032, 4095, 4096] {
+        for bytes in [0, 1, 4096, 4097, LIMIT - 96, LIMIT - 1, LIMIT] {
             let state = made_up(n, bytes, 0, 2);
-            let room = 4096 - bytes as usize;
+            let room = LONGEST - bytes as usize;
             for length in [room + 1, room + 2, 1 << 32, usize::MAX - 1, usize::MAX] {
                 assert_eq!(hmac_sha1_feed_words(state, length), refused(4));
             }
             assert_eq!(hmac_sha1_feed_words(state, room).number, 0);
             let over = hmac_sha1_feed(state, &message[..room + 1], &[]);
             assert_eq!(over, left(4, state));
-            if n == 1 || room < 100 {
+            if FEW_COUNTS.contains(&n) && room < 100 {
                 let words = random_words(3, hmac_sha1_feed_words(state, room).drawn);
                 let after = feed_done(state, &message[..room], &mut &words[..]);
-                assert_eq!(after.bytes, 4096);
+                assert_eq!(after.bytes, LIMIT);
             }
         }
     }
@@ -548,15 +523,23 @@ fn lengths_at_the_limit() {
 
 #[test]
 fn a_byte_count_past_the_limit_is_six() {
-    let message = random_bytes(1, 4097);
+    let piece = random_bytes(1, LONGEST + 1);
+    let some = [
+        LIMIT + 1,
+        LIMIT + 64,
+        1 << 32,
+        u64::MAX - LIMIT,
+        u64::MAX - 1,
+        u64::MAX,
+    ];
     for n in COUNTS {
-        for bytes in [4097, 4160, 1 << 32, u64::MAX - 4096, u64::MAX - 1, u64::MAX] {
+        for bytes in some {
             let state = made_up(n, bytes, 0, 5);
             assert_eq!(hmac_sha1_feed_words(state, 0), refused(6));
             assert_eq!(hmac_sha1_feed_words(state, usize::MAX), refused(6));
             assert_eq!(hmac_sha1_finish_words(state), refused(6));
             assert_eq!(hmac_sha1_feed(state, &[], &[]), left(6, state));
-            assert_eq!(hmac_sha1_feed(state, &message, &[]), left(6, state));
+            assert_eq!(hmac_sha1_feed(state, &piece, &[]), left(6, state));
             assert_eq!(finish(state, &[]), (left(6, state), [0xa5; 20]));
         }
     }
@@ -566,13 +549,13 @@ fn a_byte_count_past_the_limit_is_six() {
 fn a_refused_start_is_zeros() {
     for n in WRONG_COUNTS {
         assert_eq!(hmac_sha1_start_words(n), refused(1));
-        for length in [0, 1, 16, 48, 256] {
+        for length in [0, 1, 16, 256, 16 * 17] {
             let key = random_words(1, length);
             assert_eq!(hmac_sha1_start(n, &key, &[]), left(1, ZEROS));
             assert_eq!(hmac_sha1_start(n, &key, &[9; 9]), left(1, ZEROS));
         }
     }
-    for n in COUNTS {
+    for n in FEW_COUNTS {
         let words = random_words(2, hmac_sha1_start_words(n).drawn);
         for other in [0, n, 16 * n - 1, 16 * n + 1, 32 * n] {
             let key = vec![1; other];
@@ -590,9 +573,9 @@ fn a_refused_start_is_zeros() {
 #[test]
 fn a_state_without_an_allowed_count_is_six_and_never_one() {
     for n in WRONG_COUNTS {
-        for (bytes, finished) in [(0, 0), (20, 0), (4096, 0), (20, 1), (u64::MAX, 9)] {
+        for (bytes, finished) in [(0, 0), (20, 0), (LIMIT, 0), (20, 1), (u64::MAX, 9)] {
             let state = made_up(n, bytes, finished, 1);
-            for length in [0, 1, 64, 4097] {
+            for length in [0, 1, 64, LONGEST + 1] {
                 let piece = vec![7; length];
                 assert_eq!(hmac_sha1_feed(state, &piece, &[]), left(6, state));
                 assert_eq!(hmac_sha1_feed_words(state, length), refused(6));
@@ -609,7 +592,7 @@ fn a_state_without_an_allowed_count_is_six_and_never_one() {
 
 #[test]
 fn tags_of_another_length_stay() {
-    for n in COUNTS {
+    for n in FEW_COUNTS {
         let state = made_up(n, 60, 0, 1);
         let finished = made_up(n, 60, 1, 1);
         let words = random_words(2, hmac_sha1_finish_words(state).drawn);
@@ -625,12 +608,17 @@ fn tags_of_another_length_stay() {
     }
 }
 
+/// Whether a state has to be refused with number 6.
+fn is_unfit(state: State) -> bool {
+    state.finished != 0 || !COUNTS.contains(&state.n) || state.bytes > LIMIT
+}
+
 /// The number that a feed has to give, in numbers wide enough for any sum.
 fn feed_number(state: State, length: usize, lent: u64) -> u32 {
     let sum = state.bytes as u128 + length as u128;
-    if state.finished != 0 || !COUNTS.contains(&state.n) || state.bytes > 4096 {
+    if is_unfit(state) {
         6
-    } else if sum > 4096 {
+    } else if sum > LIMIT as u128 {
         4
     } else {
         let blocks = sum as u64 / 64 - state.bytes / 64;
@@ -644,13 +632,23 @@ fn feed_number(state: State, length: usize, lent: u64) -> u32 {
 
 #[test]
 fn any_state_at_all_can_be_fed_or_refused() {
-    let some = [0, 1, 63, 64, 4095, 4096, 4097, u64::MAX - 64, u64::MAX];
+    let some = [
+        0,
+        1,
+        63,
+        4097,
+        LIMIT - 1,
+        LIMIT,
+        LIMIT + 1,
+        u64::MAX - 64,
+        u64::MAX,
+    ];
     let words = random_words(1, sha1_compress_words(4).drawn);
     for n in COUNTS.into_iter().chain(WRONG_COUNTS) {
         for (place, bytes) in some.into_iter().enumerate() {
-            for finished in [0, 0, 1, 2, u32::MAX] {
+            for finished in [0, 1, 2, u32::MAX] {
                 let state = made_up(n, bytes, finished, place as u64 + 2);
-                for length in [0, 1, 2, 63, 64, 65, 4097] {
+                for length in [0, 1, 2, 63, 64, 65, LONGEST + 1] {
                     let number = feed_number(state, length, words.len() as u64);
                     let streamed = hmac_sha1_feed(state, &vec![7; length], &words);
                     assert_eq!(streamed.number, number);
@@ -671,18 +669,28 @@ fn any_state_at_all_can_be_fed_or_refused() {
 
 #[test]
 fn any_state_at_all_can_be_finished_or_refused() {
-    let some = [0, 1, 55, 56, 4095, 4096, 4097, u64::MAX - 64, u64::MAX];
+    let some = [
+        0,
+        55,
+        56,
+        4097,
+        LIMIT - 1,
+        LIMIT,
+        LIMIT + 1,
+        u64::MAX - 64,
+        u64::MAX,
+    ];
     let words = random_words(1, sha1_compress_words(4).drawn);
     for n in COUNTS.into_iter().chain(WRONG_COUNTS) {
         for (place, bytes) in some.into_iter().enumerate() {
             for mark in [0, 1, 2, u32::MAX] {
                 let state = made_up(n, bytes, mark, place as u64 + 2);
                 let (streamed, tag) = finish(state, &words);
-                if mark != 0 || !COUNTS.contains(&n) || bytes > 4096 {
+                let blocks = if bytes % 64 < 56 { 2 } else { 3 };
+                if is_unfit(state) {
                     assert_eq!((streamed, tag), (left(6, state), [0xa5; 20]));
                     assert_eq!(hmac_sha1_finish_words(state), refused(6));
-                } else if n > 2 {
-                    // Two compressions or three, and the words are those of one at 4 shares.
+                } else if blocks * 5220 * n * (n - 1) > words.len() {
                     assert_eq!((streamed, tag), (left(5, state), [0xa5; 20]));
                 } else {
                     let finished = 1;

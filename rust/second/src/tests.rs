@@ -1,19 +1,39 @@
 //! Tests: the reference values and limits of section 7, every refusal of section 3, the order of
 //! draws, the openings against plain arithmetic and a plain SHA-1, the long keys of request (iii),
-//! and the fuller refresh of request (v). Streaming and the short conversion have tests of their
-//! own, which use the helpers here.
+//! the fuller refresh of request (v), and the share counts and longer messages of request (vi).
+//! Streaming and the short conversion have tests of their own, which use the helpers here.
 
 use crate::supply::Supply;
 use crate::*;
 
-/// The share counts that are not refused.
-pub(crate) const COUNTS: [usize; 4] = [1, 2, 4, 8];
-/// Share counts that are refused.
-pub(crate) const WRONG_COUNTS: [usize; 7] = [0, 3, 5, 16, 1 << 28, usize::MAX / 16 + 2, usize::MAX];
+/// The share counts that are not refused (request (vi)).
+pub(crate) const COUNTS: [usize; 16] = [1, 2, 3, 4, 5, 6, 7, 8, 9, 10, 11, 12, 13, 14, 15, 16];
+/// Counts for the tests that hash many blocks, for which the larger ones would take too long.
+pub(crate) const FEW_COUNTS: [usize; 4] = [1, 2, 3, 5];
+/// Share counts that are refused, some of which look allowed when cut to 8 or 32 bits or times 16.
+pub(crate) const WRONG_COUNTS: [usize; 8] = [
+    0,
+    17,
+    32,
+    (1 << 8) + 2,
+    1 << 28,
+    (1 << 32) + 4,
+    usize::MAX / 16 + 2,
+    usize::MAX,
+];
+/// The most bytes that a message may have (request (vi)).
+pub(crate) const LONGEST: usize = 65_536;
+/// The words of a chain record (request (vi)).
+pub(crate) const CHAIN_WORDS: usize = 80;
+/// More words than a conversion draws at any count.
+const PLENTY: u64 = 11_000;
 /// What stands in an output before a call.
 pub(crate) const BEFORE: u32 = 0xa5a5a5a5;
 /// The starting chain of FIPS 180-4, 5.3.1.
 pub(crate) const START: [u32; 5] = [0x67452301, 0xefcdab89, 0x98badcfe, 0x10325476, 0xc3d2e1f0];
+
+/// The words of the padding after a digest, behind the outer key block.
+pub(crate) const DIGEST_PADDING: [u32; 11] = [0x80000000, 0, 0, 0, 0, 0, 0, 0, 0, 0, 672];
 
 /// Pseudo-random words from a xorshift.
 pub(crate) fn random_words(seed: u64, count: u64) -> Vec<u32> {
@@ -80,15 +100,13 @@ fn plain_compress(chain: [u32; 5], block: &[u32]) -> [u32; 5] {
 fn plain_sha1(message: &[u8]) -> Vec<u8> {
     let mut bytes = message.to_vec();
     bytes.push(0x80);
-    bytes.resize((bytes.len() + 8).div_ceil(64) * 64 - 8, 0);
+    while bytes.len() % 64 != 56 {
+        bytes.push(0);
+    }
     bytes.extend((message.len() as u64 * 8).to_be_bytes());
     let mut chain = START;
     for block in bytes.chunks(64) {
-        let words: Vec<u32> = block
-            .chunks(4)
-            .map(|four| u32::from_be_bytes(four.try_into().unwrap()))
-            .collect();
-        chain = plain_compress(chain, &words);
+        chain = plain_compress(chain, &words_of(block));
     }
     chain.iter().flat_map(|word| word.to_be_bytes()).collect()
 }
@@ -106,8 +124,68 @@ pub(crate) fn plain_hmac(key: &[u8], message: &[u8]) -> Vec<u8> {
     plain_sha1(&outer)
 }
 
-fn hex(bytes: &[u8]) -> String {
+pub(crate) fn hex(bytes: &[u8]) -> String {
     bytes.iter().map(|byte| format!("{byte:02x}")).collect()
+}
+
+// Words, blocks and chains in shares.
+
+/// The big-endian words of bytes, four to each.
+pub(crate) fn words_of(bytes: &[u8]) -> Vec<u32> {
+    bytes
+        .chunks(4)
+        .map(|four| u32::from_be_bytes(four.try_into().unwrap()))
+        .collect()
+}
+
+/// Public words in n shares.
+pub(crate) fn public(n: usize, values: &[u32]) -> Vec<u32> {
+    let mut shares = vec![0; values.len() * n];
+    for (w, value) in values.iter().enumerate() {
+        shares[w * n] = *value;
+    }
+    shares
+}
+
+/// The bytes of words in n shares, opened.
+pub(crate) fn opened_bytes(n: usize, shares: &[u32]) -> Vec<u8> {
+    let opened = shares.chunks(n).map(xor_of);
+    opened.flat_map(|word| word.to_be_bytes()).collect()
+}
+
+/// The starting chain in n shares.
+pub(crate) fn start_chain(n: usize) -> Chain {
+    let mut shares = public(n, &START);
+    shares.resize(CHAIN_WORDS, 0);
+    Chain {
+        shares: shares.try_into().unwrap(),
+    }
+}
+
+/// A chain with pseudo-random words in every place.
+pub(crate) fn random_chain(seed: u64) -> Chain {
+    let shares = random_words(seed, CHAIN_WORDS as u64);
+    Chain {
+        shares: shares.try_into().unwrap(),
+    }
+}
+
+/// A key block in n shares with a pad XORed into its words.
+pub(crate) fn with_pad(n: usize, key: &[u32], pad: u32) -> Vec<u32> {
+    let mut block = key.to_vec();
+    for w in 0..16 {
+        block[w * n] ^= pad;
+    }
+    block
+}
+
+/// A compression on the front of a supply, off which it takes what it draws.
+pub(crate) fn compress_done(n: usize, chain: Chain, block: &[u32], words: &mut &[u32]) -> Chain {
+    let answer = sha1_compress(n, chain, block, words);
+    let Compressed { number, drawn, .. } = answer;
+    assert_eq!(Answer { number, drawn }, sha1_compress_words(n));
+    *words = &words[drawn as usize..];
+    answer.chain
 }
 
 // Calls on exactly the words that their queries name, for tests of what they answer.
@@ -216,14 +294,26 @@ fn p8_psi() {
 
 #[test]
 fn p9_a2b_counts() {
-    assert_eq!(COUNTS.map(|n| a2b_words(n).drawn), [0, 34, 264, 1432]);
+    // With the counts that request (vi) adds.
+    let counts = [
+        0, 34, 134, 264, 496, 758, 1082, 1432, 1928, 2450, 3034, 3650, 4360, 5102, 5902, 6720,
+    ];
+    let words = random_words(9, PLENTY);
+    for (n, drawn) in COUNTS.into_iter().zip(counts) {
+        let mut x = vec![BEFORE; n];
+        assert_eq!(a2b(n, &vec![1; n], &mut x, &words), done(drawn));
+        assert_eq!(a2b_words(n), done(drawn));
+    }
 }
 
 #[test]
 fn p10_b2a_counts() {
-    // As request (v) amends it.
-    let words = random_words(10, 3000);
-    for (n, drawn) in COUNTS.into_iter().zip([0, 68, 465, 2363]) {
+    // As request (v) amends it, with the counts that request (vi) adds.
+    let counts = [
+        0, 68, 235, 465, 830, 1258, 1781, 2363, 3124, 3944, 4859, 5839, 6946, 8118, 9381, 10695,
+    ];
+    let words = random_words(10, PLENTY);
+    for (n, drawn) in COUNTS.into_iter().zip(counts) {
         let mut a = vec![BEFORE; n];
         assert_eq!(b2a(n, &vec![1; n], &mut a, &words), done(drawn));
         assert_eq!(b2a_words(n), done(drawn));
@@ -234,6 +324,8 @@ fn p10_b2a_counts() {
 fn p11_hmac_counts() {
     assert_eq!(hmac_sha1_words(2, 55), done(41760));
     assert_eq!(hmac_sha1_words(2, 56), done(52200));
+    // The largest of all: 1,028 compressions of 5,220·16·15 words.
+    assert_eq!(hmac_sha1_words(16, LONGEST), done(1_287_878_400));
 }
 
 // Section 4.
@@ -278,11 +370,11 @@ fn records_of_another_length_stay() {
 #[test]
 fn openings_are_right() {
     for n in COUNTS {
-        for seed in 1..20 {
+        for seed in 1..9 {
             let [p, q] = [random_words(seed, 1)[0], random_words(seed + 50, 1)[0]];
             let x = split_done(n, p, seed + 100);
             let y = split_done(n, q, seed + 200);
-            let words = random_words(seed + 300, 3000);
+            let words = random_words(seed + 300, PLENTY);
             let mut z = vec![BEFORE; n];
             assert_eq!(open_xor(n, &x), Opened { number: 0, word: p });
             assert_eq!(refresh(n, &x, &mut z, &words), refresh_words(n));
@@ -311,7 +403,7 @@ fn carries_run_from_the_bottom_to_the_top() {
         for (p, q) in pairs {
             let x = split_done(n, p, 1);
             let y = split_done(n, q, 2);
-            let words = random_words(3, 3000);
+            let words = random_words(3, PLENTY);
             let mut z = vec![BEFORE; n];
             add(n, &x, &y, &mut z, &words);
             assert_eq!(xor_of(&z), p.wrapping_add(q));
@@ -361,13 +453,15 @@ fn refresh_rule_of_three_shares_by_hand() {
     assert_eq!(supply.drawn(), 3);
     let mut supply = Supply::new(&words[..2]);
     assert_eq!(rules::refresh(&[0x01, 0x02, 0x04], &mut supply), None);
-    let mut y = [BEFORE; 3];
-    let answer = refresh(3, &[0x01, 0x02, 0x04], &mut y, &words);
-    assert_eq!((answer, y), (refused(1), [BEFORE; 3]));
 }
 
 #[test]
-fn refresh_of_four_shares_by_hand() {
+fn refresh_of_three_and_of_four_shares_by_hand() {
+    // The same by the call, which request (vi) opens to three shares.
+    let mut y = [BEFORE; 3];
+    let answer = refresh(3, &[1, 2, 4], &mut y, &[0x10, 0x20, 0x40, 99]);
+    assert_eq!(answer, done(3));
+    assert_eq!(y, [0x31, 0x52, 0x64]);
     // 10 for (1,2), 20 for (1,3), 40 for (1,4), 80 for (2,3), 100 for (2,4), 200 for (3,4).
     let words = [0x10, 0x20, 0x40, 0x80, 0x100, 0x200, 99];
     let mut y = [BEFORE; 4];
@@ -392,14 +486,16 @@ fn refresh_draws_in_the_order_of_the_and() {
 
 #[test]
 fn refresh_draws_for_pairs_and_split_does_not() {
-    assert_eq!(COUNTS.map(|n| refresh_words(n).drawn), [0, 1, 6, 28]);
-    assert_eq!(COUNTS.map(|n| split_words(n).drawn), [0, 1, 3, 7]);
+    let pairs = [0, 1, 3, 6, 10, 15, 21, 28, 36, 45, 55, 66, 78, 91, 105, 120];
+    assert_eq!(COUNTS.map(|n| refresh_words(n).drawn), pairs);
+    let others = [0, 1, 2, 3, 4, 5, 6, 7, 8, 9, 10, 11, 12, 13, 14, 15];
+    assert_eq!(COUNTS.map(|n| split_words(n).drawn), others);
 }
 
 #[test]
 fn the_counts_of_the_old_refresh_are_too_few() {
-    for (n, old_refresh, old_b2a) in [(4, 3, 462), (8, 7, 2342)] {
-        let words = random_words(1, 3000);
+    for (n, old_refresh, old_b2a) in [(3, 2, 234), (4, 3, 462), (8, 7, 2342), (16, 15, 10590)] {
+        let words = random_words(1, PLENTY);
         let x = random_words(2, n as u64);
         let mut y = vec![BEFORE; n];
         assert_eq!(refresh(n, &x, &mut y, &words[..old_refresh]), refused(5));
@@ -420,7 +516,7 @@ fn and_draws_pair_by_pair() {
 
 #[test]
 fn addition_is_made_of_ands_in_order() {
-    for n in [2, 4, 8] {
+    for n in 2..=16 {
         let words = random_words(1, add_words(n).drawn);
         let mut parts = words.chunks(and_words(n).drawn as usize);
         let x = random_words(2, n as u64);
@@ -442,8 +538,8 @@ fn addition_is_made_of_ands_in_order() {
 }
 
 #[test]
-fn a2b_draws_for_the_left_half_first() {
-    for n in [2, 4, 8] {
+fn a2b_of_a_power_of_two_expands_the_left_half_first() {
+    for n in [2, 4, 8, 16] {
         let half = n / 2;
         let words = random_words(1, a2b_words(n).drawn);
         let a = random_words(2, n as u64);
@@ -519,8 +615,7 @@ fn compression_opens_right_and_keeps_to_its_places() {
     for n in COUNTS {
         let words = random_words(1, sha1_compress_words(n).drawn);
         let block = random_words(2, 16 * n as u64);
-        let mut chain = Chain { shares: [0; 40] };
-        chain.shares.copy_from_slice(&random_words(3, 40));
+        let chain = random_chain(3);
         let answer = sha1_compress(n, chain, &block, &words);
         assert_eq!(answer.number, 0);
         assert_eq!(answer.drawn, sha1_compress_words(n).drawn);
@@ -537,163 +632,167 @@ fn compression_opens_right_and_keeps_to_its_places() {
     }
 }
 
+fn rotate(x: &[u32], by: u32) -> Vec<u32> {
+    x.iter().map(|share| share.rotate_left(by)).collect()
+}
+
+fn xor_by_shares(x: &[u32], y: &[u32]) -> Vec<u32> {
+    x.iter().zip(y).map(|(xi, yi)| xi ^ yi).collect()
+}
+
+/// The schedule of a block in n shares, with share i of word w at place w·n + i.
+fn schedule_of(n: usize, block: &[u32]) -> Vec<u32> {
+    let mut w = block.to_vec();
+    for place in 16 * n..80 * n {
+        let [a, b] = [w[place - 3 * n] ^ w[place - 8 * n], w[place - 14 * n]];
+        w.push((a ^ b ^ w[place - 16 * n]).rotate_left(1));
+    }
+    w
+}
+
+/// A call on two words in shares.
+type Rule = fn(usize, &[u32], &[u32], &mut [u32], &[u32]) -> Answer;
+
+/// Such a call on the front of a supply, off which it takes what it draws.
+fn rule_done(rule: Rule, x: &[u32], y: &[u32], words: &mut &[u32]) -> Vec<u32> {
+    let mut z = vec![BEFORE; x.len()];
+    let answer = rule(x.len(), x, y, &mut z, words);
+    assert_eq!(answer.number, 0);
+    *words = &words[answer.drawn as usize..];
+    z
+}
+
+/// The 5n shares after a compression, by one AND or addition after another.
+fn compression_by_rules(n: usize, chain: &[u32], block: &[u32], words: &mut &[u32]) -> Vec<u32> {
+    let constants = [0x5a827999, 0x6ed9eba1, 0x8f1bbcdc, 0xca62c1d6];
+    let w = schedule_of(n, block);
+    let mut v = chain.to_vec();
+    for t in 0..80 {
+        let word = |i: usize| &v[i * n..(i + 1) * n];
+        let (b, c, d) = (word(1), word(2), word(3));
+        let c_xor_d = xor_by_shares(c, d);
+        let f = match t / 20 {
+            0 => xor_by_shares(d, &rule_done(and, b, &c_xor_d, words)),
+            2 => xor_by_shares(d, &rule_done(and, &xor_by_shares(b, d), &c_xor_d, words)),
+            _ => xor_by_shares(b, &c_xor_d),
+        };
+        let k = public(n, &[constants[t / 20]]);
+        let mut sum = rotate(word(0), 5);
+        for term in [&f[..], word(4), &k, &w[t * n..(t + 1) * n]] {
+            sum = rule_done(add, &sum, term, words);
+        }
+        v = [&sum, word(0), &rotate(b, 30), c, d].concat();
+    }
+    let mut new = Vec::new();
+    for (old, word) in chain.chunks(n).zip(v.chunks(n)) {
+        new.extend(rule_done(add, old, word, words));
+    }
+    new
+}
+
 #[test]
 fn compression_is_made_of_ands_and_additions_in_order() {
-    for n in [2, 4, 8] {
+    for n in [2, 3, 4, 7, 8, 16] {
         let words = random_words(1, sha1_compress_words(n).drawn);
         let block = random_words(2, 16 * n as u64);
-        let mut chain = Chain { shares: [0; 40] };
-        chain.shares[..5 * n].copy_from_slice(&random_words(3, 5 * n as u64));
-
-        let place = std::cell::Cell::new(0);
-        type Rule = fn(usize, &[u32], &[u32], &mut [u32], &[u32]) -> Answer;
-        let next = |rule: Rule, x: &[u32], y: &[u32]| {
-            let mut z = vec![0; n];
-            let answer = rule(n, x, y, &mut z, &words[place.get()..]);
-            assert_eq!(answer.number, 0);
-            place.set(place.get() + answer.drawn as usize);
-            z
-        };
-        let xor = |x: &[u32], y: &[u32]| -> Vec<u32> { (0..n).map(|i| x[i] ^ y[i]).collect() };
-        let rotate = |x: &[u32], by| -> Vec<u32> { x.iter().map(|s| s.rotate_left(by)).collect() };
-        let constants = [0x5a827999, 0x6ed9eba1, 0x8f1bbcdc, 0xca62c1d6];
-
-        let mut w = block.clone();
-        for place in 16 * n..80 * n {
-            let [a, b] = [w[place - 3 * n] ^ w[place - 8 * n], w[place - 14 * n]];
-            w.push((a ^ b ^ w[place - 16 * n]).rotate_left(1));
-        }
-        let mut v = chain.shares[..5 * n].to_vec();
-        for t in 0..80 {
-            let word = |i: usize| &v[i * n..(i + 1) * n];
-            let (b, c, d) = (word(1), word(2), word(3));
-            let f = match t / 20 {
-                0 => xor(d, &next(and, b, &xor(c, d))),
-                2 => xor(d, &next(and, &xor(b, d), &xor(c, d))),
-                _ => xor(b, &xor(c, d)),
-            };
-            let mut k = vec![0; n];
-            k[0] = constants[t / 20];
-            let mut sum = rotate(word(0), 5);
-            for term in [&f[..], word(4), &k, &w[t * n..(t + 1) * n]] {
-                sum = next(add, &sum, term);
-            }
-            v = [&sum, word(0), &rotate(b, 30), c, d].concat();
-        }
-        let mut expected = Vec::new();
-        for (old, new) in chain.shares.chunks(n).zip(v.chunks(n)) {
-            expected.extend(next(add, old, new));
-        }
-        assert_eq!(place.get(), words.len());
-        let answer = sha1_compress(n, chain, &block, &words);
-        assert_eq!(answer.number, 0);
-        assert_eq!(answer.chain.shares[..5 * n], expected);
+        let chain = random_chain(3);
+        let mut rest = &words[..];
+        let expected = compression_by_rules(n, &chain.shares[..5 * n], &block, &mut rest);
+        assert!(rest.is_empty());
+        let after = compress_done(n, chain, &block, &mut &words[..]);
+        assert_eq!(after.shares[..5 * n], expected);
+        assert!(after.shares[5 * n..].iter().all(|word| *word == 0));
     }
 }
 
 #[test]
 fn hmac_is_made_of_compressions_in_order() {
-    for n in COUNTS {
+    for n in FEW_COUNTS {
         let message = random_bytes(1, 70);
         let key = split_key_done(n, &random_bytes(2, 40), 3);
         let words = random_words(4, hmac_sha1_words(n, 70).drawn);
-        let public = |values: &[u32]| {
-            let mut shares = vec![0; values.len() * n];
-            for (w, value) in values.iter().enumerate() {
-                shares[w * n] = *value;
-            }
-            shares
-        };
-        let mut start = Chain { shares: [0; 40] };
-        start.shares[..5 * n].copy_from_slice(&public(&START));
-        let with_pad = |pad: u32| {
-            let mut block = key.clone();
-            for w in 0..16 {
-                block[w * n] ^= pad;
-            }
-            block
-        };
         let mut bytes = message.clone();
         bytes.push(0x80);
-        bytes.resize(126, 0);
-        bytes.extend(((64u16 + 70) * 8).to_be_bytes());
-        let values: Vec<u32> = bytes
-            .chunks(4)
-            .map(|four| u32::from_be_bytes(four.try_into().unwrap()))
-            .collect();
+        bytes.resize(120, 0);
+        bytes.extend(((64u64 + 70) * 8).to_be_bytes());
+        let values = words_of(&bytes);
 
         let mut rest = &words[..];
-        let mut next = |chain: Chain, block: &[u32]| {
-            let answer = sha1_compress(n, chain, block, rest);
-            assert_eq!(answer.number, 0);
-            rest = &rest[answer.drawn as usize..];
-            answer.chain
-        };
-        let inner = next(start, &with_pad(0x36363636));
-        let inner = next(inner, &public(&values[..16]));
-        let inner = next(inner, &public(&values[16..]));
-        let outer = next(start, &with_pad(0x5c5c5c5c));
+        let mut next = |chain: Chain, block: &[u32]| compress_done(n, chain, block, &mut rest);
+        let inner = next(start_chain(n), &with_pad(n, &key, 0x36363636));
+        let inner = next(inner, &public(n, &values[..16]));
+        let inner = next(inner, &public(n, &values[16..]));
+        let outer = next(start_chain(n), &with_pad(n, &key, 0x5c5c5c5c));
         let mut block = inner.shares[..5 * n].to_vec();
-        block.extend(public(&[0x80000000, 0, 0, 0, 0, 0, 0, 0, 0, 0, 672]));
+        block.extend(public(n, &DIGEST_PADDING));
         let outer = next(outer, &block);
         assert!(rest.is_empty());
-        let expected: Vec<u8> = outer.shares[..5 * n]
-            .chunks(n)
-            .flat_map(|shares| xor_of(shares).to_be_bytes())
-            .collect();
 
         let mut tag = [0xa5; 20];
         let answer = hmac_sha1(n, &key, &message, &mut tag, &words);
         assert_eq!(answer, hmac_sha1_words(n, 70));
-        assert_eq!(tag.to_vec(), expected);
+        assert_eq!(tag.to_vec(), opened_bytes(n, &outer.shares[..5 * n]));
+    }
+}
+
+/// The cases of RFC 2202: key, message and tag.
+pub(crate) const RFC_2202: [(&[u8], &[u8], &str); 7] = [
+    (
+        &[0x0b; 20],
+        b"Hi There",
+        "b617318655057264e28bc0b6fb378c8ef146be00",
+    ),
+    (
+        b"Jefe",
+        b"what do ya want for nothing?",
+        "effcdf6ae5eb2fa2d27416d5f184df9c259a7c79",
+    ),
+    (
+        &[0xaa; 20],
+        &[0xdd; 50],
+        "125d7342b9ac11cd91a39af48aa17b4f63f175d3",
+    ),
+    (
+        &[
+            1, 2, 3, 4, 5, 6, 7, 8, 9, 10, 11, 12, 13, 14, 15, 16, 17, 18, 19, 20, 21, 22, 23, 24,
+            25,
+        ],
+        &[0xcd; 50],
+        "4c9007f4026250c6bc8414f9bf50c86c2d7235da",
+    ),
+    (
+        &[0x0c; 20],
+        b"Test With Truncation",
+        "4c1a03424b55e07fe7f27be1d58bb9324a9a5a04",
+    ),
+    (
+        &[0xaa; 80],
+        b"Test Using Larger Than Block-Size Key - Hash Key First",
+        "aa4ae5e15272d00e95705637ce8a3b55ed402112",
+    ),
+    (
+        &[0xaa; 80],
+        b"Test Using Larger Than Block-Size Key and Larger Than One Block-Size Data",
+        "e8e99d0f45237d786d6bbaa7965c7808bbff1a91",
+    ),
+];
+
+#[test]
+fn rfc_2202() {
+    for n in FEW_COUNTS {
+        for (key, message, tag) in RFC_2202 {
+            assert_eq!(hex(&plain_hmac(key, message)), tag);
+            assert_eq!(hex(&hmac_done(n, key, message, 1)), tag);
+        }
     }
 }
 
 #[test]
-fn rfc_2202() {
-    let counting: Vec<u8> = (1..=25).collect();
-    let cases: [(&[u8], &[u8], &str); 7] = [
-        (
-            &[0x0b; 20],
-            b"Hi There",
-            "b617318655057264e28bc0b6fb378c8ef146be00",
-        ),
-        (
-            b"Jefe",
-            b"what do ya want for nothing?",
-            "effcdf6ae5eb2fa2d27416d5f184df9c259a7c79",
-        ),
-        (
-            &[0xaa; 20],
-            &[0xdd; 50],
-            "125d7342b9ac11cd91a39af48aa17b4f63f175d3",
-        ),
-        (
-            &counting,
-            &[0xcd; 50],
-            "4c9007f4026250c6bc8414f9bf50c86c2d7235da",
-        ),
-        (
-            &[0x0c; 20],
-            b"Test With Truncation",
-            "4c1a03424b55e07fe7f27be1d58bb9324a9a5a04",
-        ),
-        (
-            &[0xaa; 80],
-            b"Test Using Larger Than Block-Size Key - Hash Key First",
-            "aa4ae5e15272d00e95705637ce8a3b55ed402112",
-        ),
-        (
-            &[0xaa; 80],
-            b"Test Using Larger Than Block-Size Key and Larger Than One Block-Size Data",
-            "e8e99d0f45237d786d6bbaa7965c7808bbff1a91",
-        ),
-    ];
+fn rfc_2202_at_every_count() {
+    // One case for each count, so that every case comes twice at least.
     for n in COUNTS {
-        for (key, message, tag) in cases {
-            assert_eq!(hex(&plain_hmac(key, message)), tag);
-            assert_eq!(hex(&hmac_done(n, key, message, 1)), tag);
-        }
+        let (key, message, tag) = RFC_2202[n % RFC_2202.len()];
+        assert_eq!(hex(&hmac_done(n, key, message, 2)), tag, "n {n}");
     }
 }
 
@@ -703,7 +802,7 @@ fn hmac_agrees_with_the_plain_one() {
         hex(&plain_sha1(b"abc")),
         "a9993e364706816aba3e25717850c26c9cd0d89d"
     );
-    for n in COUNTS {
+    for n in FEW_COUNTS {
         for length in [0, 1, 3, 4, 54, 55, 56, 57, 63, 64, 65, 119, 120, 128] {
             let key = random_bytes(length as u64, length % 65);
             let message = random_bytes(5, length);
@@ -716,31 +815,26 @@ fn hmac_agrees_with_the_plain_one() {
 // Request (iii): keys over 64 bytes.
 
 /// Lengths of long keys, each with the words it is split into and the blocks it is hashed in.
-const LONG_KEYS: [(usize, u64, u64); 10] = [
+const LONG_KEYS: [(usize, u64, u64); 8] = [
     (65, 17, 2),
-    (66, 17, 2),
-    (67, 17, 2),
     (68, 17, 2),
+    (69, 18, 2),
     (119, 30, 2),
     (120, 30, 3),
     (127, 32, 3),
     (128, 32, 3),
-    (1023, 256, 17),
     (1024, 256, 17),
 ];
 
 #[test]
 fn a_long_key_block_is_the_hash_and_then_zero_shares() {
-    for n in COUNTS {
+    for n in FEW_COUNTS {
         for (length, words, blocks) in LONG_KEYS {
             let drawn = words * (n as u64 - 1) + blocks * 5220 * (n * (n - 1)) as u64;
             assert_eq!(split_key_words(n, length), done(drawn));
             let key = random_bytes(length as u64, length);
             let shares = split_key_done(n, &key, 1);
-            let opened: Vec<u8> = shares[..5 * n]
-                .chunks(n)
-                .flat_map(|shares| xor_of(shares).to_be_bytes())
-                .collect();
+            let opened = opened_bytes(n, &shares[..5 * n]);
             assert_eq!(opened, plain_sha1(&key), "n {n}, length {length}");
             assert_eq!(shares[5 * n..], vec![0; 11 * n]);
         }
@@ -749,10 +843,9 @@ fn a_long_key_block_is_the_hash_and_then_zero_shares() {
 
 #[test]
 fn long_keys_of_every_length_in_a_block_are_hashed() {
-    let key = random_bytes(1, 192);
-    for length in 65..=192 {
-        let shares = split_key_done(1, &key[..length], 2);
-        let opened: Vec<u8> = shares.iter().flat_map(|word| word.to_be_bytes()).collect();
+    let key = random_bytes(1, 136);
+    for length in 65..=136 {
+        let opened = opened_bytes(1, &split_key_done(1, &key[..length], 2));
         assert_eq!(opened[..20], plain_sha1(&key[..length]), "length {length}");
         assert_eq!(opened[20..], [0; 44]);
     }
@@ -777,22 +870,34 @@ fn a_key_of_66_bytes_in_two_shares_step_by_step() {
     padded.extend([0; 2 * 14]);
     padded.extend([66 * 8, 0]);
     // The two compressions draw after all of the splitting.
-    let mut start = Chain { shares: [0; 40] };
-    for (w, value) in START.into_iter().enumerate() {
-        start.shares[2 * w] = value;
-    }
-    let first = sha1_compress(2, start, &padded[..32], &words[17..]);
-    assert_eq!((first.number, first.drawn), (0, 10440));
-    let second = sha1_compress(2, first.chain, &padded[32..], &words[17 + 10440..]);
-    assert_eq!((second.number, second.drawn), (0, 10440));
+    let mut rest = &words[17..];
+    let first = compress_done(2, start_chain(2), &padded[..32], &mut rest);
+    assert_eq!(rest.len(), 10440);
+    let second = compress_done(2, first, &padded[32..], &mut rest);
+    assert!(rest.is_empty());
     // The 10 digest words, then zero shares.
-    let mut expected = second.chain.shares[..10].to_vec();
+    let mut expected = second.shares[..10].to_vec();
     expected.resize(32, 0);
 
     let mut shares = vec![BEFORE; 32];
     let answer = split_key(2, &key, &mut shares, &words);
     assert_eq!(answer, done(17 + 2 * 10440));
     assert_eq!(shares, expected);
+}
+
+/// The words of a key, the last one filled with zero bytes, split one after another.
+fn split_words_of_key(n: usize, key: &[u8], words: &mut &[u32]) -> Vec<u32> {
+    let mut split_words = Vec::new();
+    for part in key.chunks(4) {
+        let mut four = [0; 4];
+        four[..part.len()].copy_from_slice(part);
+        let mut shares = vec![BEFORE; n];
+        let answer = split(n, u32::from_be_bytes(four), &mut shares, words);
+        assert_eq!(answer, done(n as u64 - 1));
+        *words = &words[n - 1..];
+        split_words.extend(shares);
+    }
+    split_words
 }
 
 #[test]
@@ -808,35 +913,21 @@ fn long_keys_are_split_then_padded_then_compressed() {
         (127, 0x80, 0),
         (128, 0, 0x80000000),
     ];
-    for n in [1, 2, 4] {
+    for n in [1, 2, 3] {
         for (length, in_last_word, whole_word) in cases {
             let key = random_bytes(1, length);
             let words = random_words(2, split_key_words(n, length).drawn);
             let mut rest = &words[..];
-            let mut padded = Vec::new();
-            for part in key.chunks(4) {
-                let mut four = [0; 4];
-                four[..part.len()].copy_from_slice(part);
-                let mut shares = vec![BEFORE; n];
-                let answer = split(n, u32::from_be_bytes(four), &mut shares, rest);
-                rest = &rest[answer.drawn as usize..];
-                padded.extend(shares);
-            }
+            let mut padded = split_words_of_key(n, &key, &mut rest);
             let after = padded.len();
             padded[after - n] ^= in_last_word;
-            padded.resize((length + 9).div_ceil(64) * 16 * n, 0);
+            padded.resize(((length + 8) / 64 + 1) * 16 * n, 0);
             padded[after] = whole_word;
             let last = padded.len() - n;
             padded[last] = length as u32 * 8;
-            let mut chain = Chain { shares: [0; 40] };
-            for (w, value) in START.into_iter().enumerate() {
-                chain.shares[n * w] = value;
-            }
+            let mut chain = start_chain(n);
             for block in padded.chunks(16 * n) {
-                let answer = sha1_compress(n, chain, block, rest);
-                assert_eq!(answer.number, 0);
-                rest = &rest[answer.drawn as usize..];
-                chain = answer.chain;
+                chain = compress_done(n, chain, block, &mut rest);
             }
             assert!(rest.is_empty());
             let mut expected = chain.shares[..5 * n].to_vec();
@@ -849,7 +940,7 @@ fn long_keys_are_split_then_padded_then_compressed() {
 
 #[test]
 fn one_word_less_for_a_long_key_is_five() {
-    for n in [2, 4] {
+    for n in [2, 3] {
         for (length, words, blocks) in LONG_KEYS {
             let key = random_bytes(1, length);
             let splitting = words as usize * (n - 1);
@@ -869,13 +960,13 @@ fn one_word_less_for_a_long_key_is_five() {
 
 #[test]
 fn splitting_a_key_is_refused_in_order() {
-    for n in COUNTS {
+    for n in FEW_COUNTS {
         let lent = random_words(1, split_key_words(n, 1024).drawn);
         for length in [1025, 1026, 2000] {
             let key = vec![7; length];
             for words in [&lent[..], &[]] {
                 let mut shares = vec![BEFORE; 16 * n];
-                assert_eq!(split_key(3, &key, &mut shares[1..], words), refused(1));
+                assert_eq!(split_key(17, &key, &mut shares[1..], words), refused(1));
                 assert_eq!(split_key(n, &key, &mut shares[1..], words), refused(3));
                 assert_eq!(split_key(n, &key, &mut shares, words), refused(4));
                 assert_eq!(shares, vec![BEFORE; 16 * n]);
@@ -889,13 +980,208 @@ fn splitting_a_key_is_refused_in_order() {
     }
 }
 
+// Request (vi): every share count from 1 to 16, and longer messages.
+
+/// So many words, 0 but for those that stand at the places named.
+fn words_at(count: usize, places: &[(usize, &[u32])]) -> Vec<u32> {
+    let mut words = vec![0; count];
+    for (place, some) in places {
+        words[*place..*place + some.len()].copy_from_slice(some);
+    }
+    words
+}
+
+// In the three tests by hand every share and word has bits of its own. So no AND of two terms has
+// a bit, its words are 0, and an addition is the XOR by shares.
+
+#[test]
+fn a2b_of_three_shares_by_hand() {
+    let places: [(usize, &[u32]); 3] = [
+        // Left: 01, 00, 00, refreshed to 11, 20, 30.
+        (0, &[0x10, 0x20]),
+        // Right: 02 and 04, expanded to 102, 100 and 204, 200; 32 words for their sum 306, 300.
+        (2, &[0x100, 0x200]),
+        // 306, 300, 00, refreshed to 1306, 2300, 3000; 96 words for the sum of left and right.
+        (36, &[0x1000, 0x2000]),
+    ];
+    let words = words_at(134, &places);
+    let mut x = [BEFORE; 3];
+    assert_eq!(a2b(3, &[0x01, 0x02, 0x04], &mut x, &words), done(134));
+    assert_eq!(x, [0x1317, 0x2320, 0x3030]);
+    assert_eq!(xor_of(&x), 0x07);
+    let mut x = [BEFORE; 3];
+    assert_eq!(a2b(3, &[1, 2, 4], &mut x, &words[..133]), refused(5));
+    assert_eq!(x, [BEFORE; 3]);
+}
+
+#[test]
+fn a2b_of_five_shares_by_hand() {
+    let places: [(usize, &[u32]); 6] = [
+        // Left: 01 and 02, expanded to 21, 20 and 42, 40; 32 words for their sum 63, 60.
+        (0, &[0x20, 0x40]),
+        // 63, 60, 00, 00, 00, refreshed to e3, 160, 200, 400, 780.
+        (34, &[0x80, 0x100, 0x200, 0x400]),
+        // Right, its left: 04, 00, 00, refreshed to 804, 1000, 1800.
+        (38, &[0x800, 0x1000]),
+        // Its right: 08 and 10, expanded to 2008, 2000 and 4010, 4000; 32 words for 6018, 6000.
+        (40, &[0x2000, 0x4000]),
+        // Refreshed to e018, 16000, 18000; 96 words for the right's sum e81c, 17000, 19800.
+        (74, &[0x8000, 0x10000]),
+        // Refreshed to 2e81c, 57000, 99800, 100000, 1e0000; 320 words for the sum of both.
+        (172, &[0x20000, 0x40000, 0x80000, 0x100000]),
+    ];
+    let words = words_at(496, &places);
+    let mut x = [BEFORE; 5];
+    let answer = a2b(5, &[0x01, 0x02, 0x04, 0x08, 0x10], &mut x, &words);
+    assert_eq!(answer, done(496));
+    assert_eq!(x, [0x2e8ff, 0x57160, 0x99a00, 0x100400, 0x1e0780]);
+    assert_eq!(xor_of(&x), 0x1f);
+}
+
+#[test]
+fn a2b_of_seven_shares_by_hand() {
+    let places: [(usize, &[u32]); 7] = [
+        // Left, 3 shares: 01 becomes 41, 80, c0; 02 and 04 add up with 32 words to 306, 300.
+        (0, &[0x40, 0x80, 0x100, 0x200]),
+        // Refreshed to 706, b00, c00; 96 words for the left's sum 747, b80, cc0.
+        (36, &[0x400, 0x800]),
+        // Refreshed to 1747, 2b80, 4cc0, 8000, 10000, 20000, 3f000.
+        (134, &[0x1000, 0x2000, 0x4000, 0x8000, 0x10000, 0x20000]),
+        // Right, 4 shares by the other rule: 08 and 10 add up with 32 words to c0018, c0000.
+        (140, &[0x40000, 0x80000]),
+        // Expanded to 1c0018, 100000, 2c0000, 200000; 20 and 00 with 32 words to c00020, c00000.
+        (174, &[0x100000, 0x200000, 0x400000, 0x800000]),
+        // Expanded to 1c00020, 1000000, 2c00000, 2000000; 192 words for the right's sum 1dc0038,
+        // 1100000, 2ec0000, 2200000.
+        (210, &[0x1000000, 0x2000000]),
+        // Refreshed to 5dc0038, 9100000, 12ec0000, 22200000, 40000000, 80000000, fc000000; 672
+        // words for the sum of both.
+        (404, &[1 << 26, 1 << 27, 1 << 28, 1 << 29, 1 << 30, 1 << 31]),
+    ];
+    let words = words_at(1082, &places);
+    let mut x = [BEFORE; 7];
+    let answer = a2b(7, &[1, 2, 4, 8, 0x10, 0x20, 0], &mut x, &words);
+    assert_eq!(answer, done(1082));
+    assert_eq!(x[..4], [0x5dc177f, 0x9102b80, 0x12ec4cc0, 0x22208000]);
+    assert_eq!(x[4..], [0x40010000, 0x80020000, 0xfc03f000]);
+    assert_eq!(xor_of(&x), 0x3f);
+}
+
+/// A half's conversion, zero shares up to n, and the old refresh: each of its words goes into a share
+/// of its own, and all of them go into the last.
+fn converted_and_refreshed(n: usize, half: &[u32], words: &[u32], refreshing: &[u32]) -> Vec<u32> {
+    let mut converted = vec![BEFORE; half.len()];
+    let answer = a2b(half.len(), half, &mut converted, words);
+    assert_eq!(answer, done(words.len() as u64));
+    converted.resize(n, 0);
+    let mut shares = xor_by_shares(&converted, refreshing);
+    shares.push(converted[n - 1] ^ xor_of(refreshing));
+    shares
+}
+
+#[test]
+fn a2b_of_other_counts_refreshes_the_left_half_first() {
+    // Where the words end of the left half, its refresh, the right half, its refresh, the addition.
+    let cases = [
+        (3, [0, 2, 36, 38, 134]),
+        (5, [34, 38, 172, 176, 496]),
+        (6, [134, 139, 273, 278, 758]),
+        (7, [134, 140, 404, 410, 1082]),
+        (9, [264, 272, 768, 776, 1928]),
+        (10, [496, 505, 1001, 1010, 2450]),
+        (11, [496, 506, 1264, 1274, 3034]),
+        (12, [758, 769, 1527, 1538, 3650]),
+        (13, [758, 770, 1852, 1864, 4360]),
+        (14, [1082, 1095, 2177, 2190, 5102]),
+        (15, [1082, 1096, 2528, 2542, 5902]),
+    ];
+    for (n, ends) in cases {
+        let words = random_words(1, ends[4]);
+        let part = |i: usize| &words[ends[i - 1] as usize..ends[i] as usize];
+        let a = random_words(2, n as u64);
+        let (left, right) = a.split_at(n / 2);
+        let first = &words[..ends[0] as usize];
+        let left = converted_and_refreshed(n, left, first, part(1));
+        let right = converted_and_refreshed(n, right, part(2), part(3));
+        let mut expected = vec![BEFORE; n];
+        let answer = add(n, &left, &right, &mut expected, part(4));
+        assert_eq!(answer, done(ends[4] - ends[3]));
+        let mut x = vec![BEFORE; n];
+        assert_eq!(a2b(n, &a, &mut x, &words), done(ends[4]));
+        assert_eq!(x, expected, "n {n}");
+    }
+}
+
+#[test]
+fn there_and_back_at_every_count() {
+    let plenty = PLENTY as usize;
+    let supplies = [
+        random_words(1, PLENTY),
+        vec![0; plenty],
+        vec![u32::MAX; plenty],
+    ];
+    for n in COUNTS {
+        let mut inputs = vec![vec![0; n], vec![1; n], vec![u32::MAX; n]];
+        inputs.extend((2..6).map(|seed| random_words(seed, n as u64)));
+        for x in &inputs {
+            for words in &supplies {
+                let (mut there, mut back) = (vec![BEFORE; n], vec![BEFORE; n]);
+                assert_eq!(b2a(n, x, &mut there, words), b2a_words(n));
+                assert_eq!(a2b(n, &there, &mut back, words), a2b_words(n));
+                assert_eq!([sum_of(&there), xor_of(&back)], [xor_of(x); 2]);
+                assert_eq!(a2b(n, x, &mut there, words), a2b_words(n));
+                assert_eq!(b2a(n, &there, &mut back, words), b2a_words(n));
+                assert_eq!([xor_of(&there), sum_of(&back)], [sum_of(x); 2]);
+            }
+        }
+    }
+}
+
+#[test]
+fn expand_of_three_and_of_sixteen_shares() {
+    let mut y = [BEFORE; 6];
+    let answer = expand(3, &[0x11, 0x22, 0x33], &mut y, &[0x01, 0x02, 0x04, 99]);
+    assert_eq!(answer, done(3));
+    assert_eq!(y, [0x10, 0x01, 0x20, 0x02, 0x37, 0x04]);
+    let (x, words) = (random_words(1, 16), random_words(2, 16));
+    let mut y = [BEFORE; 32];
+    assert_eq!(expand(16, &x, &mut y, &words), done(16));
+    for (i, pair) in y.chunks(2).enumerate() {
+        assert_eq!(pair, [x[i] ^ words[i], words[i]]);
+    }
+}
+
+/// Messages whose tags were worked out by another program: 251 byte values in turn.
+fn counting_bytes(count: usize) -> Vec<u8> {
+    (0..count).map(|place| (place % 251) as u8).collect()
+}
+
+#[test]
+fn the_longest_message_in_one_share() {
+    let message = counting_bytes(LONGEST);
+    let tag = hmac_done(1, b"a longer log", &message, 1);
+    assert_eq!(hex(&tag), "ae187c8c555bc41a98561d7a0687fd683bf88748");
+    assert_eq!(tag, plain_hmac(b"a longer log", &message));
+}
+
+#[test]
+fn length_fields_of_more_than_16_bits() {
+    // With the 64 bytes of the key block, 8,127 bytes have fff8 bits and 8,128 bytes have 10000;
+    // the longest message has 80200.
+    let message = counting_bytes(8128);
+    let tag = hmac_done(1, b"a longer log", &message[..8127], 1);
+    assert_eq!(hex(&tag), "a9e7471a25fed58fd5e343cd51338013d368fbd2");
+    let tag = hmac_done(2, b"a longer log", &message, 1);
+    assert_eq!(hex(&tag), "b253025fd04fc128a8894cd1fe350f92156b4185");
+}
+
 // Sections 3 and 7: the limits and the refusals.
 
 #[test]
 fn limits() {
-    let mut x = [BEFORE; 3];
-    assert_eq!(a2b(3, &[1, 2, 3], &mut x, &[]), refused(1));
-    assert_eq!(x, [BEFORE; 3]);
+    let mut x = [BEFORE; 17];
+    assert_eq!(a2b(17, &[1; 17], &mut x, &[]), refused(1));
+    assert_eq!(x, [BEFORE; 17]);
     assert_eq!(a2b(0, &[], &mut [], &[]), refused(1));
     let words = random_words(1, 34);
     let mut x = [BEFORE; 2];
@@ -903,15 +1189,26 @@ fn limits() {
     assert_eq!(x, [BEFORE; 2]);
     assert_eq!(a2b(2, &[5, 6], &mut x, &words), done(34));
     assert_eq!(xor_of(&x), 11);
-    let message = random_bytes(2, 4097);
+}
+
+#[test]
+fn limits_of_messages_and_keys() {
+    let message = random_bytes(2, LONGEST + 1);
+    let words = random_words(3, 1000);
     for n in COUNTS {
-        let tag = hmac_done(n, b"key", &message[..4096], 3);
-        assert_eq!(tag, plain_hmac(b"key", &message[..4096]));
+        let key = vec![0; 16 * n];
         let mut tag = [0xa5; 20];
-        let answer = hmac_sha1(n, &vec![0; 16 * n], &message, &mut tag, &[]);
+        let answer = hmac_sha1(n, &key, &message, &mut tag, &[]);
         assert_eq!((answer, tag), (refused(4), [0xa5; 20]));
-        assert_eq!(hmac_sha1_words(n, 4097), refused(4));
+        assert_eq!(hmac_sha1_words(n, LONGEST + 1), refused(4));
         assert_eq!(hmac_sha1_words(n, usize::MAX), refused(4));
+        let compressions = (LONGEST as u64 + 8) / 64 + 4;
+        let drawn = compressions * sha1_compress_words(n).drawn;
+        assert_eq!(hmac_sha1_words(n, LONGEST), done(drawn));
+        if n > 1 {
+            let answer = hmac_sha1(n, &key, &message[..LONGEST], &mut tag, &words);
+            assert_eq!((answer, tag), (refused(5), [0xa5; 20]));
+        }
         assert_eq!(split_key_words(n, 1024).number, 0);
         assert_eq!(split_key_words(n, 1025), refused(4));
         assert_eq!(split_key_words(n, usize::MAX), refused(4));
@@ -922,19 +1219,17 @@ fn limits() {
 type Call = Box<dyn Fn(&[u32]) -> (Answer, Vec<u32>)>;
 
 /// Each call that takes a supply, with count n: its query, and the call on inputs and on an output
-/// of the lengths given.
+/// of the lengths given. The short conversion, with counts of its own, has its own tests.
 fn calls(n: usize, input: usize, second: usize, output: usize) -> Vec<(Answer, Call)> {
     let x = random_words(1, input as u64);
     let y = random_words(2, second as u64);
     type Rule1 = fn(usize, &[u32], &mut [u32], &[u32]) -> Answer;
-    type Rule2 = fn(usize, &[u32], &[u32], &mut [u32], &[u32]) -> Answer;
-    let one: [(Answer, Rule1); 4] = [
+    let one: [(Answer, Rule1); 3] = [
         (refresh_words(n), refresh),
         (a2b_words(n), a2b),
         (b2a_words(n), b2a),
-        (b2a_short_words(n), b2a_short),
     ];
-    let two: [(Answer, Rule2); 2] = [(and_words(n), and), (add_words(n), add)];
+    let two: [(Answer, Rule); 2] = [(and_words(n), and), (add_words(n), add)];
     let mut calls: Vec<(Answer, Call)> = Vec::new();
     for (query, rule) in two {
         let (x, y) = (x.clone(), y.clone());
@@ -957,7 +1252,7 @@ fn calls(n: usize, input: usize, second: usize, output: usize) -> Vec<(Answer, C
     calls
 }
 
-/// The calls whose lengths are not simply n, with lengths that are right for n.
+/// The calls whose lengths are not simply n but that hash nothing, with lengths that are right for n.
 fn longer_calls(n: usize) -> Vec<(Answer, Call)> {
     let value = move |words: &[u32]| {
         let mut shares = vec![BEFORE; n];
@@ -972,13 +1267,22 @@ fn longer_calls(n: usize) -> Vec<(Answer, Call)> {
         let mut shares = vec![BEFORE; 16 * n];
         (split_key(n, b"a key", &mut shares, words), shares)
     };
+    vec![
+        (split_words(n), Box::new(value)),
+        (expand_words(n), Box::new(twice)),
+        (split_key_words(n, 5), Box::new(key)),
+    ]
+}
+
+/// The calls that hash, with lengths that are right for n.
+fn hash_calls(n: usize) -> Vec<(Answer, Call)> {
     let long_key = move |words: &[u32]| {
         let mut shares = vec![BEFORE; 16 * n];
         (split_key(n, &[0x5a; 70], &mut shares, words), shares)
     };
     let compression = move |words: &[u32]| {
         let chain = Chain {
-            shares: [BEFORE; 40],
+            shares: [BEFORE; CHAIN_WORDS],
         };
         let answer = sha1_compress(n, chain, &random_words(1, 16 * n as u64), words);
         let Compressed { number, drawn, .. } = answer;
@@ -988,15 +1292,9 @@ fn longer_calls(n: usize) -> Vec<(Answer, Call)> {
         let mut tag = [0xa5; 20];
         let key = random_words(1, 16 * n as u64);
         let answer = hmac_sha1(n, &key, b"a message", &mut tag, words);
-        let output = tag
-            .chunks(4)
-            .map(|four| u32::from_be_bytes(four.try_into().unwrap()));
-        (answer, output.collect())
+        (answer, words_of(&tag))
     };
     vec![
-        (split_words(n), Box::new(value)),
-        (expand_words(n), Box::new(twice)),
-        (split_key_words(n, 5), Box::new(key)),
         (split_key_words(n, 70), Box::new(long_key)),
         (sha1_compress_words(n), Box::new(compression)),
         (hmac_sha1_words(n, 9), Box::new(mac)),
@@ -1006,7 +1304,12 @@ fn longer_calls(n: usize) -> Vec<(Answer, Call)> {
 #[test]
 fn queries_name_what_is_drawn() {
     for n in COUNTS {
-        for (query, call) in calls(n, n, n, n).into_iter().chain(longer_calls(n)) {
+        let mut all = calls(n, n, n, n);
+        all.extend(longer_calls(n));
+        if FEW_COUNTS.contains(&n) {
+            all.extend(hash_calls(n));
+        }
+        for (query, call) in all {
             assert_eq!(query.number, 0);
             let drawn = query.drawn as usize;
             let words = random_words(7, query.drawn + 5);
@@ -1028,6 +1331,7 @@ fn queries_name_what_is_drawn() {
 
 #[test]
 fn lengths_are_refused_in_order() {
+    let words = random_words(1, PLENTY);
     for n in COUNTS {
         let wrong = [0, n - 1, n + 1, 2 * n, 16];
         for other in wrong.into_iter().filter(|other| *other != n) {
@@ -1042,7 +1346,7 @@ fn lengths_are_refused_in_order() {
                 for (_, call) in calls(n, input, second, output) {
                     let expected = (refused(number), vec![BEFORE; output]);
                     assert_eq!(call(&[]), expected);
-                    assert_eq!(call(&random_words(1, 3000)), expected);
+                    assert_eq!(call(&words), expected);
                 }
             }
             let mut shares = vec![BEFORE; other];
@@ -1063,13 +1367,9 @@ fn lengths_are_refused_in_order() {
 }
 
 #[test]
-fn hash_calls_are_refused_in_order() {
+fn compressions_and_key_splittings_are_refused_in_order() {
+    let chain = random_chain(1);
     for n in COUNTS {
-        let chain = Chain {
-            shares: random_words(1, 40).try_into().unwrap(),
-        };
-        let key = vec![1; 16 * n];
-        let (message, long) = ([7; 4096], [7; 4097]);
         for other in [0, 16 * n - 1, 16 * n + 1] {
             let answer = sha1_compress(n, chain, &vec![1; other], &[]);
             let expected = Compressed {
@@ -1082,6 +1382,20 @@ fn hash_calls_are_refused_in_order() {
             assert_eq!(split_key(n, &[1; 1024], &mut shares, &[]), refused(3));
             assert_eq!(split_key(n, &[1; 1025], &mut shares, &[]), refused(3));
             assert_eq!(shares, vec![BEFORE; other]);
+        }
+        let mut shares = vec![BEFORE; 16 * n];
+        assert_eq!(split_key(n, &[1; 1025], &mut shares, &[]), refused(4));
+        assert_eq!(shares, vec![BEFORE; 16 * n]);
+    }
+}
+
+#[test]
+fn tags_are_refused_in_order() {
+    let long = vec![7; LONGEST + 1];
+    let message = &long[..LONGEST];
+    for n in COUNTS {
+        let key = vec![1; 16 * n];
+        for other in [0, 16 * n - 1, 16 * n + 1] {
             let mut tag = [0xa5; 19];
             let wrong_key = vec![1; other];
             assert_eq!(hmac_sha1(n, &wrong_key, &long, &mut tag, &[]), refused(2));
@@ -1090,22 +1404,21 @@ fn hash_calls_are_refused_in_order() {
         for other in [0, 19, 21] {
             let mut tag = vec![0xa5; other];
             assert_eq!(hmac_sha1(n, &key, &long, &mut tag, &[]), refused(3));
-            assert_eq!(hmac_sha1(n, &key, &message, &mut tag, &[]), refused(3));
+            assert_eq!(hmac_sha1(n, &key, message, &mut tag, &[]), refused(3));
             assert_eq!(tag, vec![0xa5; other]);
         }
         let mut tag = [0xa5; 20];
         assert_eq!(hmac_sha1(n, &key, &long, &mut tag, &[]), refused(4));
         assert_eq!(tag, [0xa5; 20]);
-        let mut shares = vec![BEFORE; 16 * n];
-        assert_eq!(split_key(n, &[1; 1025], &mut shares, &[]), refused(4));
-        assert_eq!(shares, vec![BEFORE; 16 * n]);
     }
 }
 
 #[test]
 fn share_counts_are_refused_first() {
+    let chain = random_chain(1);
+    let long = vec![7; LONGEST + 1];
     for n in WRONG_COUNTS {
-        for length in [0, 1, 3, 16] {
+        for length in [0, 1, 3, 16, 17, 16 * 17] {
             for (query, call) in calls(n, length, length, length) {
                 assert_eq!(query, refused(1));
                 assert_eq!(call(&[]), (refused(1), vec![BEFORE; length]));
@@ -1117,14 +1430,11 @@ fn share_counts_are_refused_first() {
             assert_eq!(split_key(n, &[1; 1025], &mut y, &[]), refused(1));
             assert_eq!(y, vec![BEFORE; length]);
             let mut tag = [0xa5; 19];
-            assert_eq!(hmac_sha1(n, &x, &[7; 4097], &mut tag, &[]), refused(1));
+            assert_eq!(hmac_sha1(n, &x, &long, &mut tag, &[]), refused(1));
             assert_eq!(tag, [0xa5; 19]);
             let one = Opened { number: 1, word: 0 };
             assert_eq!(open_xor(n, &x), one);
             assert_eq!(open_sum(n, &x), one);
-            let chain = Chain {
-                shares: random_words(1, 40).try_into().unwrap(),
-            };
             let expected = Compressed {
                 number: 1,
                 drawn: 0,
@@ -1132,6 +1442,12 @@ fn share_counts_are_refused_first() {
             };
             assert_eq!(sha1_compress(n, chain, &x, &[]), expected);
         }
+    }
+}
+
+#[test]
+fn queries_refuse_share_counts_first() {
+    for n in WRONG_COUNTS {
         assert_eq!(split_words(n), refused(1));
         assert_eq!(expand_words(n), refused(1));
         assert_eq!(sha1_compress_words(n), refused(1));
@@ -1144,10 +1460,8 @@ fn share_counts_are_refused_first() {
 
 #[test]
 fn a_refused_compression_hands_the_chain_back() {
-    for n in [2, 4, 8] {
-        let chain = Chain {
-            shares: random_words(1, 40).try_into().unwrap(),
-        };
+    for n in [2, 3, 8, 16] {
+        let chain = random_chain(1);
         let words = random_words(2, sha1_compress_words(n).drawn - 1);
         let expected = Compressed {
             number: 5,
