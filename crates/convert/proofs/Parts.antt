@@ -17,7 +17,7 @@ use Rattle.rules.specs.Counts.{addDraws, widenDraws, toBoolDraws}
 use Rattle.rules.proofs.Conversion.{negatives, power-even, toBool-one, toBool-more, draws-one, draws-more}
 use Rattle.rules.proofs.Rule.{next-rule}
 use Rattle.rules.proofs.Loops.{Run}
-use Rattle.convert.specs.Steps.{Half, Halves, widened, less}
+use Rattle.convert.specs.Steps.{Half, Halves, widened, widenedDraws, less}
 
 -- ---- a share count above one has its halves
 pub halved-count : (n : ℕ) → n ≤ largest → 1 < n → Halves n
@@ -36,14 +36,14 @@ halved-count n room more =
 
 -- ---- a half of m shares brought to n
 module _ (n m at : ℕ) (b : Bool) (is : b ≡ powerOfTwo n) where
-  pub expand-size : (size : ℕ) → Half n m → b ≡ true → size ≡ n → size ≡ m * 2
-  expand-size size half e l = l ∙ sym (half .even (sym is ∙ e))
+  pub expand-size : (size half : ℕ) → Half n m → b ≡ true → size ≡ n → half ≡ m → size ≡ half * 2
+  expand-size size half parts e l k = l ∙ sym (rw k (parts .even (sym is ∙ e)))
 
-  pub expand-room : (have : ℕ) → b ≡ true → at + widenDraws n m ≤ have → at + m ≤ have
-  expand-room have e h = rw (sym is ∙ e) at h
+  pub expand-room : (have half : ℕ) → b ≡ true → half ≡ m → at + widenDraws n m ≤ have → at + half ≤ have
+  expand-room have half e k h = rw k (rw (sym is ∙ e) at h)
 
-  pub expand-place : (p : ℕ) → b ≡ true → p ≡ at + m → p ≡ at + widenDraws n m
-  expand-place p e h = h ∙ rw (sym is ∙ e)
+  pub expand-place : (p half : ℕ) → b ≡ true → half ≡ m → p ≡ at + half → p ≡ at + widenDraws n m
+  expand-place p half e k h = h ∙ rw (sym is ∙ e, k)
 
   module _ (came y half : List ℕ) (e : b ≡ false) (l : length came ≡ n) (put : y ≡ sets came 0 half) where
     pub refresh-room : (have : ℕ) → at + widenDraws n m ≤ have → at + (length y - 1) ≤ have
@@ -57,16 +57,25 @@ module _ (n : ℕ) (half x ws : List ℕ) (at p : ℕ) (b : Bool) (is : b ≡ po
   unfolding widen
   widen-expanded e f = rw (sym is ∙ e) f
 
-  pub widen-filled : (came y : List ℕ) → b ≡ false → length half < n → came ≡ replicate n 0 → y ≡ sets came 0 half
+  pub widen-filled : (m : ℕ) (came y : List ℕ) → b ≡ false → Half n m → length half ≡ m → came ≡ replicate n 0
+      → y ≡ sets came 0 half
       → refreshLast y ws at ≡ (x, p) → widen n half ws at ≡ (x, p)
   unfolding widen
-  widen-filled came y e l zeros put f =
+  widen-filled m came y e parts l zeros put f =
+      let part = parts .part in
       let room = length-replicate {A = ℕ} n 0 in
       let made : y ≡ half ++ replicate (n - length half) 0 =
       put ∙ rw zeros (sets-eq half (replicate n 0) 0 (omega arith) ∙ ap (λ (r : List ℕ). half ++ r) (rw (zero-add (length half)) (rw sub-zero at (zeros-after n (length half) (omega arith))))) in
       rw (sym is ∙ e, ← made) f
 
 -- ---- arithmetic to Boolean
+module _ (n m at p : ℕ) (drew : p ≡ at + toBoolDraws (addDraws bits) m) where
+  pub widened-room : (have : ℕ) → at + widenedDraws n m ≤ have → p + widenDraws n m ≤ have
+  widened-room have h = omega arith
+
+  pub widened-place : (q : ℕ) → q ≡ p + widenDraws n m → q ≡ at + widenedDraws n m
+  widened-place q h = omega arith
+
 module _ (adder : Adder) (ws : List ℕ) (at : ℕ) where
   pub widened-made : (n : ℕ) (half b x : List ℕ) (p q : ℕ) → toBool adder half ws at ≡ (b, p) → widen n b ws p ≡ (x, q)
       → widened adder n half ws at ≡ (x, q)

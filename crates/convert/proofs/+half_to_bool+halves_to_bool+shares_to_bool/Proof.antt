@@ -1,10 +1,14 @@
 -- Three functions that call each other, n being the count: shares_to_bool calls halves_to_bool at n, that calls
 -- half_to_bool at n, and that calls shares_to_bool at one half. So the measures are 3n, 3n − 1 and 3(n − n/2) + 1.
-use Prim.Native.Nat.{ℕ, _+_, _-_, _*_, _/_, _<_}
+use Prim.Native.Nat.{ℕ, _+_, _-_, _*_, _/_, _≤_, _<_}
+use mathlib.Core.Path.{_≡_}
+use lib.ListN.{take, replicate}
 use borrow.Author.Needs.{needs}
 use borrow.Fn.Kinds.{In}
 use borrow.Fn.PlainCycle.{Measures, is, falls, and}
-use Rattle.convert.proofs.Parts.{halved-count, widened-made, one-made, one-place, toBool-made}
+use Rattle.words.proofs.Stores.{lent-zeros}
+use Rattle.rules.specs.Numbers.{largest}
+use Rattle.convert.proofs.Parts.{halved-count, widened-room, widened-place, widened-made, one-made, one-place, toBool-made}
 use Rattle.convert.proofs.half_to_bool.Reads as half
 use Rattle.convert.proofs.half_to_bool.Kinds as half-kinds
 use Rattle.convert.proofs.+half_to_bool+halves_to_bool+shares_to_bool.Lts-half_to_bool as half-lts
@@ -19,6 +23,10 @@ use Rattle.shares.proofs.copy.Reads as copy
 use Rattle.convert.proofs.widen_at.Reads as widen-at
 use Rattle.convert.proofs.+half_to_bool+halves_to_bool+shares_to_bool.{statement}
 use Rattle.convert.proofs.+half_to_bool+halves_to_bool+shares_to_bool.Tie.{close}
+
+-- room that is lent for the first n of its zeros
+zeros : (n : ℕ) → n ≤ largest → take {A = ℕ} (n - 0) (replicate largest 0) ≡ replicate n 0
+zeros = lent-zeros largest
 
 abbrev μ-half : Measures 3 half-kinds.ps ℕ
 μ-half κs a = 3 * (a .0 - a .0 / 2) + 1
@@ -56,10 +64,10 @@ pub +half-to-bool+halves-to-bool+shares-to-bool-spec : {M : Type 1} → statemen
     (λ c. search needs)
     (λ c. search needs)
     (λ c. search needs)
-    (λ c κs. (search needs, (search needs, search needs, search needs, search needs)))
-    (λ c κs. search needs)
+    (λ c κs. (search needs, (search needs, search needs, search needs, search needs, search needs)))
+    (λ c κs. (search needs, search needs, search needs, search needs, search widened-room))
     (λ c. search needs)
-    (λ c. (search widened-made, search needs)))
+    (λ c. (search widened-made, search widened-place)))
     -- halves_to_bool
     (λ t. halves-lts.spec (half-below t, half.Post, add-halves.Asked, add-halves.Learnt) (halves-at t) halves.Post
     (λ c. search needs)
@@ -75,8 +83,9 @@ pub +half-to-bool+halves-to-bool+shares-to-bool-spec : {M : Type 1} → statemen
     (λ c. search needs)
     (λ c. search needs)
     (λ c. search needs)
-    (λ c κs. (search needs, (search needs, search needs, search needs, search needs)))
-    (λ c κs. (search needs, (search needs, search needs, search needs, search needs)))
+    (λ c κs. (search needs, (search needs, search needs, search needs, search zeros, search needs)))
+    (λ c. search needs)
+    (λ c κs. (search needs, (search needs, search needs, search needs, search zeros, search needs)))
     (λ c κs. search needs)
     (λ c. search needs)
     (λ c. (search toBool-made, search needs)))

@@ -1,16 +1,15 @@
 -- the negatives converted, added to x and refreshed, each drawing from where the one before ended
 use borrow.Author.Needs.{needs}
 use native.Mathlib.Omega.{arith}
-use Rattle.rules.proofs.Allowed.{few}
 use Rattle.convert.proofs.Parts.{less-made}
 use Rattle.convert.proofs.less_at.Statement.{statement}
 use Rattle.convert.proofs.less_at.Tie as tie
 
 part-b0-end : tie.Need-part-b0-end
-part-b0-end c = omega (arith, few)
+part-b0-end c = search needs
 
 add-at-requires : tie.Need-add-at-requires
-add-at-requires c κs = (search needs, search needs, omega (arith, few), search needs)
+add-at-requires c κs = (search needs, search needs, search needs, search needs)
 
 refresh-at-requires : tie.Need-refresh-at-requires
 refresh-at-requires c κs = search needs

@@ -1,13 +1,12 @@
 -- the negatives, then their conversion
 use borrow.Author.Needs.{needs}
 use native.Mathlib.Omega.{arith}
-use Rattle.rules.proofs.Allowed.{few}
 use Rattle.convert.proofs.Parts.{negative-made}
 use Rattle.convert.proofs.negative_to_bool.Statement.{statement}
 use Rattle.convert.proofs.negative_to_bool.Tie as tie
 
 part-m0-end : tie.Need-part-m0-end
-part-m0-end c = omega (arith, few)
+part-m0-end c = search needs
 
 returns : tie.Need-returns
 returns c = (search negative-made, search needs)
