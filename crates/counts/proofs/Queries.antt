@@ -5,16 +5,22 @@ use mathlib.Core.Bool.{Bool, true, false}
 use mathlib.Core.List.{List, [], _∷_}
 use native.Mathlib.Nat.{mul-zero, mul-le-mul}
 use native.Mathlib.Omega.{arith}
-use lib.Dec.{eqb}
+use lib.Dec.{eqb, leb}
+use lib.ListN.{getD}
+use borrow.Author.Tests.{eqb-true, leb-true}
+use Rattle.width.specs.Width.{bits}
 use Rattle.rules.specs.declared.Answer.{Answer}
-use Rattle.rules.specs.Numbers.{longestKey, choose, either, power, allowed, Test, test, first, settled, told}
+use Rattle.rules.specs.Numbers.{largest, longestKey, choose, either, power, allowed, Test, test, first}
+use Rattle.rules.specs.Numbers.{both, settled, told}
+use Rattle.rules.specs.Counts.{andDraws, refreshDraws, addDraws, toBoolDrawsIn, toBoolDraws, toArithDraws}
 use Rattle.rules.specs.Counts.{compressDraws, keyDraws, sha1}
 use Rattle.rules.specs.Calls.{query}
 use Rattle.rules.proofs.Calls.{settled-refused, tells}
-use Rattle.rules.proofs.Sizes.{compress-count}
+use Rattle.rules.proofs.Sizes.{andDraws-twice, compress-count}
 use Rattle.rules.proofs.Keys.{short-draws, long-draws}
-use Rattle.rules.proofs.Allowed.{Taken, one, two, four, eight, counted, few}
-use Rattle.counts.specs.Queries.{byCount, byText}
+use Rattle.rules.proofs.Allowed.{Taken, one, two, four, eight, counted, both-true, within, some, few}
+use Rattle.rules.proofs.Allowed.{every, each-to}
+use Rattle.counts.specs.Queries.{taken, byPower, byText}
 
 told-count : (counted : Bool) (d : ℕ) → told (test 1 counted ∷ []) d ≡ choose counted d 0
 unfolding first test
@@ -69,7 +75,63 @@ pub query-done : (tests : List Test) (d number drawn : ℕ) → first tests ≡ 
     → query tests d ≡ record { number = 0; drawn = drawn }
 query-done tests d number drawn e h f = rw (e, h, f)
 
--- a share count that is not taken is none of 2, 4 and 8
+-- ---- by the share count: what the rule draws at the count m that is taken
+by-count : (d : ℕ → ℕ) (n : ℕ) → d 1 ≡ 0
+    → query (test 1 (allowed n) ∷ []) (d n) ≡ record { number = first (test 1 (allowed n) ∷ []); drawn = d (taken n) }
+by-count d n none = rw told-count (go (allowed n))
+  where
+    go : (t : Bool)
+        → _≡_ {A = Answer} (record { number = first (test 1 t ∷ []); drawn = choose t (d n) 0 })
+        (record { number = first (test 1 t ∷ []); drawn = d (choose t n 1) })
+    go true = refl
+    go false = rw none
+
+pub query-taken : (d : ℕ → ℕ) → d 1 ≡ 0 → (n m drawn : ℕ) (q : Answer) → m ≡ taken n → drawn ≡ d m
+    → record { number = first (test 1 (allowed n) ∷ []); drawn = drawn } ≡ q → query (test 1 (allowed n) ∷ []) (d n) ≡ q
+query-taken d none n m drawn q e f is = by-count d n none ∙ rw (f, e) at is
+
+-- so many for each of the p pairs, and Boolean to arithmetic
+pub query-pairs : (a n m p : ℕ) (q : Answer) → m ≡ taken n → p ≡ andDraws m
+    → record { number = first (test 1 (allowed n) ∷ []); drawn = a * p } ≡ q
+    → query (test 1 (allowed n) ∷ []) (a * andDraws n) ≡ q
+unfolding andDraws
+query-pairs a n m p q e f = query-taken (λ n. a * andDraws n) (mul-zero a) n m (a * p) q e (ap (λ r. a * r) f)
+
+pub query-arith : (n m p w : ℕ) (q : Answer) → m ≡ taken n → p ≡ andDraws m → w ≡ toBoolDraws (addDraws bits) m
+    → record { number = first (test 1 (allowed n) ∷ []); drawn = m - 1 + w + bits * p + p } ≡ q
+    → query (test 1 (allowed n) ∷ []) (toArithDraws (addDraws bits) refreshDraws n) ≡ q
+unfolding andDraws toBoolDrawsIn toBoolDraws
+query-arith n m p w q e f g =
+    query-taken (toArithDraws (addDraws bits) refreshDraws) refl n m (m - 1 + w + bits * p + p) q e (rw (f, g))
+
+taken-within : (n : ℕ) → (0 < taken n) × (taken n ≤ largest)
+taken-within n = go (allowed n) refl
+  where
+    go : (t : Bool) → allowed n ≡ t → (0 < choose t n 1) × (choose t n 1 ≤ largest)
+    go true e = within n e
+    go false e = omega arith
+
+pub taken-made : (n m : ℕ) → m ≡ taken n → (m ≡ taken n) × (0 < m) × (m ≤ largest)
+taken-made n m e = let within = taken-within n in (e, rw e (within .0), rw e (within .1))
+
+pub pairs-below : (n : ℕ) → 0 < n → n ≤ largest → n * (n - 1) ≤ 240
+pairs-below n h l = let less : n - 1 ≤ 15 = omega arith in mul-le-mul l less
+
+pub pairs-are : (n : ℕ) → 0 < n → n * (n - 1) / 2 ≡ andDraws n
+pairs-are zero h = absurd (omega arith)
+pairs-are (suc m) h = let e : suc m - 1 ≡ m = omega arith in rw e (omega (arith, andDraws-twice m))
+
+-- W, by a table that is tested at each count
+abbrev pub right : List ℕ → ℕ → Bool
+right table n = both (eqb (getD table n 0) (toBoolDraws (addDraws bits) n)) (leb (getD table n 0) 6720)
+
+pub table-right : (table : List ℕ) → every (right table) largest ≡ true → (n : ℕ) → n ≤ largest
+    → (getD table n 0 ≡ toBoolDraws (addDraws bits) n) × (getD table n 0 ≤ 6720)
+table-right table tested n h =
+    let parts = both-true _ _ (each-to (right table) largest tested n h) in
+    (eqb-true _ _ (parts .0), leb-true _ _ (parts .1))
+
+-- ---- the short conversion: none of 2, 4 and 8 is refused
 others : (n : ℕ) → power n ≡ false → (eqb n 2 ≡ false) × (eqb n 4 ≡ false) × (eqb n 8 ≡ false)
 unfolding power
 others n h = go (eqb n 1) (eqb n 2) (eqb n 4) (eqb n 8) h
@@ -81,72 +143,54 @@ others n h = go (eqb n 1) (eqb n 2) (eqb n 4) (eqb n 8) h
     go false false true d h = let z : _≡_ {A = ℕ} 0 1 = cc in absurd (omega arith)
     go false false false true h = let z : _≡_ {A = ℕ} 0 1 = cc in absurd (omega arith)
 
--- a number for each share count, by what the rule draws at each
-module _ (d : ℕ → ℕ) (n : ℕ) where
-  pub told-below : (b : ℕ) → d 1 ≤ b → d 2 ≤ b → d 4 ≤ b → d 8 ≤ b → told (test 1 (power n) ∷ []) (d n) ≤ b
-  told-below b h₁ h₂ h₄ h₈ = rw told-count (go (power n) refl)
-    where
-      at : {n : ℕ} → Taken n → d n ≤ b
-      at one = h₁
-      at two = h₂
-      at four = h₄
-      at eight = h₈
+pub by-power : (d : ℕ → ℕ) (n two′ four′ eight′ : ℕ) → d 1 ≡ 0 → d 2 ≡ two′ → d 4 ≡ four′ → d 8 ≡ eight′
+    → query (test 1 (power n) ∷ []) (d n)
+    ≡ record { number = first (test 1 (power n) ∷ []); drawn = byPower n two′ four′ eight′ }
+by-power d n two′ four′ eight′ h₁ h₂ h₄ h₈ = rw (told-count, go (power n) refl)
+  where
+    at : {n : ℕ} → Taken n → d n ≡ byPower n two′ four′ eight′
+    at one = h₁
+    at two = h₂
+    at four = h₄
+    at eight = h₈
 
-      go : (t : Bool) → power n ≡ t → choose t (d n) 0 ≤ b
-      go true e = at (counted n e)
-      go false e = omega arith
-
-  pub by-count : (two′ four′ eight′ : ℕ) → d 1 ≡ 0 → d 2 ≡ two′ → d 4 ≡ four′ → d 8 ≡ eight′
-      → query (test 1 (power n) ∷ []) (d n)
-      ≡ record { number = first (test 1 (power n) ∷ []); drawn = byCount n two′ four′ eight′ }
-  by-count two′ four′ eight′ h₁ h₂ h₄ h₈ = rw (told-count, go (power n) refl)
-    where
-      at : {n : ℕ} → Taken n → d n ≡ byCount n two′ four′ eight′
-      at one = h₁
-      at two = h₂
-      at four = h₄
-      at eight = h₈
-
-      go : (t : Bool) → power n ≡ t → choose t (d n) 0 ≡ byCount n two′ four′ eight′
-      go true e = at (counted n e)
-      go false e = let o = others n e in rw (o .0, o .1, o .2)
+    go : (t : Bool) → power n ≡ t → choose t (d n) 0 ≡ byPower n two′ four′ eight′
+    go true e = at (counted n e)
+    go false e = let o = others n e in rw (o .0, o .1, o .2)
 
 -- ---- compressions: what one draws is told, and is not over what it draws at the largest share count
 abbrev most : ℕ
-most = 292320
+most = 1252800
+
+compress-most : (n : ℕ) → 0 < n → n ≤ largest → compressDraws 32 n ≤ most
+compress-most n h l = rw (compress-count n) (omega (arith, pairs-below n h l))
 
 module _ (n : ℕ) (each : Answer) (e : query (test 1 (allowed n) ∷ []) (compressDraws 32 n) ≡ each) where
   pub compress-below : each .drawn ≤ most
   compress-below =
-      rw (ap (λ (q : Answer). q .drawn) e) at
-      (told-below (compressDraws 32) n most (at 1 (omega arith)) (at 2 (omega arith)) (at 4 (omega arith))
-      (at 8 (omega arith)))
-    where
-      at : (n : ℕ) → 5220 * (n * (n - 1)) ≤ most → compressDraws 32 n ≤ most
-      at n h = rw (compress-count n) h
+      let all = sym e ∙ by-count (compressDraws 32) n (compress-count 1) in
+      let taken = taken-within n in
+      rw (ap (λ (q : Answer). q .drawn) all) (compress-most _ (taken .0) (taken .1))
 
   pub compress-told : allowed n ≡ true → compressDraws 32 n ≡ each .drawn
   unfolding first test
   compress-told h = tells (test 1 (allowed n) ∷ []) (compressDraws 32 n) each e (rw h)
 
   -- so many of them fit into 64 bits
-  pub compressions-fit : (m : ℕ) → m ≤ 68 → m * each .drawn < 2 ^ 64
+  pub compressions-fit : (m : ℕ) → m ≤ 1028 → m * each .drawn < 2 ^ 64
   compressions-fit m h = omega (arith, mul-le-mul h compress-below)
 
 -- ---- splitting a key of l bytes, with n shares
 module _ (n l : ℕ) (count : allowed n ≡ true) (short : l ≤ longestKey) where
-  pub key-product : (l + 3) / 4 * (n - 1) ≤ 1792
+  pub key-product : (l + 3) / 4 * (n - 1) ≤ 3840
   key-product =
       let most-words : (l + 3) / 4 ≤ 256 = omega arith in
-      let most-each : n - 1 ≤ 7 = omega (arith, few n count) in
+      let most-each : n - 1 ≤ 15 = omega (arith, few n count) in
       mul-le-mul most-words most-each
 
   pub key-sum : (hashed m : ℕ) → hashed ≡ m * compressDraws 32 n → m ≤ 17 → (l + 3) / 4 * (n - 1) + hashed < 2 ^ 64
   key-sum hashed m e h =
-      let each : n - 1 ≤ 7 = omega (arith, few n count) in
-      let pairs : n * (n - 1) ≤ 56 = mul-le-mul (few n count) each in
-      let one : compressDraws 32 n ≤ most = rw (compress-count n) (omega (arith, pairs)) in
-      omega (arith, key-product, mul-le-mul h one)
+      omega (arith, key-product, mul-le-mul h (compress-most n (some n count) (few n count)))
 
   pub short-told : l ≤ 64 → 16 * (n - 1) ≡ keyDraws (sha1 32) n l
   short-told h = sym (short-draws (sha1 32) n l h)

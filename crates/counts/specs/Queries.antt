@@ -1,14 +1,19 @@
--- What the code of this crate goes by: a number for each share count, and a query by a text too.
+-- What the code of this crate goes by: a share count that is taken, a number for each of the short conversion, and a
+-- query by a text too.
 use Prim.Native.Nat.{ℕ}
 use lib.Dec.{eqb}
 use mathlib.Core.Bool.{Bool}
 use Rattle.rules.specs.declared.Answer.{Answer}
-use Rattle.rules.specs.Numbers.{largest, choose, test}
+use Rattle.rules.specs.Numbers.{choose, allowed, test}
 use Rattle.numbers.specs.Tests.{after}
 
+-- the share count where it is allowed, else 1
+abbrev pub taken : ℕ → ℕ
+taken n = choose (allowed n) n 1
+
 -- a number for 2, 4 and 8 shares
-abbrev pub byCount : ℕ → ℕ → ℕ → ℕ → ℕ
-byCount n two four eight = choose (eqb n 2) two (choose (eqb n 4) four (choose (eqb n largest) eight 0))
+abbrev pub byPower : ℕ → ℕ → ℕ → ℕ → ℕ
+byPower n two four eight = choose (eqb n 2) two (choose (eqb n 4) four (choose (eqb n 8) eight 0))
 
 -- a query by a text too
 abbrev pub byText : Answer → Bool → Answer

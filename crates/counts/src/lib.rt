@@ -3,16 +3,16 @@
 ghost use mathlib.Core.Path.{_≡_};
 ghost use mathlib.Core.Bool.{true};
 ghost use mathlib.Core.List.{[], _∷_};
-ghost use Prim.Native.Nat.{_+_, _-_, _*_, _≤_};
+ghost use Prim.Native.Nat.{_+_, _-_, _*_, _≤_, _<_};
 ghost use lib.Dec.{leb};
 ghost use Rattle.width.specs.Width.{bits};
-ghost use Rattle.rules.specs.Numbers.{longestKey, longestMessage, choose, power, allowed, fit, test, first};
+ghost use Rattle.rules.specs.Numbers.{largest, longestKey, longestMessage, choose, power, allowed, fit, test, first};
 ghost use Rattle.rules.specs.Standard.{SHA1};
 ghost use Rattle.rules.specs.Counts.{refreshDraws, andDraws, addDraws, toBoolDraws, toArithDraws, shortDraws};
 ghost use Rattle.rules.specs.Counts.{compressDraws, compressions, keyDraws, hmacDraws, startDraws, feedDraws};
 ghost use Rattle.rules.specs.Counts.{finishDraws, sha1};
 ghost use Rattle.rules.specs.Calls.{query};
-ghost use Rattle.counts.specs.Queries.{byCount, byText};
+ghost use Rattle.counts.specs.Queries.{taken, byPower, byText};
 use numbers::DONE;
 use numbers::TOO_LONG;
 use numbers::WRONG_COUNT;
@@ -20,16 +20,24 @@ use numbers::answer;
 use numbers::fitness;
 use numbers::growth;
 use numbers::is_allowed;
+use numbers::is_power;
 use numbers::key_fitness;
 use numbers::tested;
 use rules::Answer;
 use rules::BLOCK_BYTES;
 use rules::BLOCK_WORDS;
-use rules::LARGEST;
 use rules::LENGTH_BYTES;
 use rules::LONGEST_MESSAGE;
 use rules::WORD_BYTES;
 use width::BITS;
+
+// W(n), from n = 0 on: what arithmetic to Boolean draws.
+const TO_BOOL: [usize; 17] = [
+    0, 0, 34, 134, 264, 496, 758, 1082, 1432, 1928, 2450, 3034, 3650, 4360, 5102, 5902, 6720,
+];
+
+// How many ANDs a compression makes.
+const COMPRESS_ANDS: usize = 10440;
 
 fn choose(asked: bool, a: usize, b: usize) -> usize
     ensures { λ r. ⌜ r ≡ choose asked a b ⌝ }
@@ -40,16 +48,33 @@ fn choose(asked: bool, a: usize, b: usize) -> usize
     b
 }
 
-// By the share count alone: a number for 2, 4 and 8 shares.
-fn by_count(n: usize, two: usize, four: usize, eight: usize) -> Answer
-    ensures { λ r. ⌜ record { number = first (test 1 (power n) ∷ []); drawn = byCount n two four eight } ≡ r ⌝ }
+// The share count where it is allowed, else 1: one share draws nothing, so that a refusal tells 0.
+fn taken(n: usize) -> usize
+    ensures { λ r. ⌜ (r ≡ taken n) × (0 < r) × (r ≤ largest) ⌝ }
 {
-    let drawn = choose(
-        n == 2,
-        two,
-        choose(n == 4, four, choose(n == LARGEST, eight, 0)),
-    );
+    choose(is_allowed(n), n, 1)
+}
+
+// By the share count alone.
+fn by_count(n: usize, drawn: usize) -> Answer
+    ensures { λ r. ⌜ record { number = first (test 1 (allowed n) ∷ []); drawn = drawn } ≡ r ⌝ }
+{
     answer(tested(DONE, WRONG_COUNT, is_allowed(n)), drawn)
+}
+
+// How many pairs n shares have: n(n − 1)/2.
+fn pairs(n: usize) -> usize
+    requires { ⌜ (0 < n) × (n ≤ largest) ⌝ }
+    ensures { λ r. ⌜ (r ≡ andDraws n) × (r ≤ 120) ⌝ }
+{
+    n * (n - 1) / 2
+}
+
+fn to_bool(n: usize) -> usize
+    requires { ⌜ n ≤ largest ⌝ }
+    ensures { λ r. ⌜ (r ≡ toBoolDraws (addDraws bits) n) × (r ≤ 6720) ⌝ }
+{
+    TO_BOOL[n]
 }
 
 // By a text too.
@@ -64,7 +89,7 @@ fn by_text(words: Answer, fits: bool) -> Answer
 pub fn split_words(n: usize) -> Answer
     ensures { λ r. ⌜ query (test 1 (allowed n) ∷ []) (n - 1) ≡ r ⌝ }
 {
-    by_count(n, 1, 3, 7)
+    by_count(n, taken(n) - 1)
 }
 
 // Expand: n.
@@ -79,7 +104,7 @@ pub fn expand_words(n: usize) -> Answer
 pub fn and_words(n: usize) -> Answer
     ensures { λ r. ⌜ query (test 1 (allowed n) ∷ []) (andDraws n) ≡ r ⌝ }
 {
-    by_count(n, 1, 6, 28)
+    by_count(n, pairs(taken(n)))
 }
 
 // Refresh: the AND's pairs.
@@ -93,41 +118,43 @@ pub fn refresh_words(n: usize) -> Answer
 pub fn add_words(n: usize) -> Answer
     ensures { λ r. ⌜ query (test 1 (allowed n) ∷ []) (addDraws bits n) ≡ r ⌝ }
 {
-    let each = and_words(n);
-    answer(each.number, BITS * each.drawn)
+    by_count(n, BITS * pairs(taken(n)))
 }
 
 // Arithmetic to Boolean: W(n).
 pub fn a2b_words(n: usize) -> Answer
     ensures { λ r. ⌜ query (test 1 (allowed n) ∷ []) (toBoolDraws (addDraws bits) n) ≡ r ⌝ }
 {
-    by_count(n, 34, 264, 1432)
+    by_count(n, to_bool(taken(n)))
 }
 
 // Boolean to arithmetic: n − 1 + W(n) + 16n(n − 1) + n(n − 1)/2.
 pub fn b2a_words(n: usize) -> Answer
     ensures { λ r. ⌜ query (test 1 (allowed n) ∷ []) (toArithDraws (addDraws bits) refreshDraws n) ≡ r ⌝ }
 {
-    by_count(n, 68, 465, 2363)
+    let m = taken(n);
+    let each = pairs(m);
+    by_count(n, m - 1 + to_bool(m) + BITS * each + each)
 }
 
 // The short conversion: V(n).
 pub fn short_words(n: usize) -> Answer
     ensures { λ r. ⌜ query (test 1 (power n) ∷ []) (shortDraws n) ≡ r ⌝ }
 {
-    by_count(n, 4, 40, 868)
+    let drawn = choose(n == 2, 4, choose(n == 4, 40, choose(n == 8, 868, 0)));
+    answer(tested(DONE, WRONG_COUNT, is_power(n)), drawn)
 }
 
 // One compression: 5,220n(n − 1).
 pub fn compress_words(n: usize) -> Answer
     ensures { λ r. ⌜ query (test 1 (allowed n) ∷ []) (compressDraws 32 n) ≡ r ⌝ }
 {
-    by_count(n, 10440, 62640, 292320)
+    by_count(n, COMPRESS_ANDS * pairs(taken(n)))
 }
 
 // The compressions of HMAC of a message of so many bytes, where that is not too long.
 fn compressions(message: usize) -> usize
-    ensures { λ r. ⌜ (r ≤ 68) × (leb message longestMessage ≡ true → compressions (SHA1 32) message ≡ r) ⌝ }
+    ensures { λ r. ⌜ (r ≤ 1028) × (leb message longestMessage ≡ true → compressions (SHA1 32) message ≡ r) ⌝ }
 {
     if LONGEST_MESSAGE < message {
         return 0;
@@ -156,7 +183,7 @@ pub fn start_words(n: usize) -> Answer
 
 // So many compressions of an allowed share count.
 fn compressions_words(count: usize, n: usize) -> usize
-    requires { ⌜ (count ≤ 68) × (allowed n ≡ true) ⌝ }
+    requires { ⌜ (count ≤ 1028) × (allowed n ≡ true) ⌝ }
     ensures { λ r. ⌜ r ≡ count * compressDraws 32 n ⌝ }
 {
     count * compress_words(n).drawn

@@ -51,7 +51,7 @@ pub few : (n : ℕ) → allowed n ≡ true → n ≤ largest
 few n h = within n h .1
 
 -- ---- what is tested of every count up to m holds of each
-abbrev every : (ℕ → Bool) → ℕ → Bool
+abbrev pub every : (ℕ → Bool) → ℕ → Bool
 every f zero = f 0
 every f (suc m) = both (every f m) (f (suc m))
 

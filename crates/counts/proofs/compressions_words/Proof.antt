@@ -11,7 +11,7 @@ use Rattle.counts.proofs.compressions_words.Tie as tie
 
 mul-result : tie.Need-mul-result
 mul-result c =
-    let few : c .before .before .args .count ≤ 68 = search needs in
+    let few : c .before .before .args .count ≤ 1028 = search needs in
     omega (arith, compressions-fit _ _ (c .before .compress-words .ensures) _ few)
 
 returns : tie.Need-returns
