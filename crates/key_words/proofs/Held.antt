@@ -14,6 +14,7 @@ use lib.Seq.{take-nil}
 use mir.Syntax.{w64}
 use mir.Val.{Fits}
 use Rattle.words.proofs.Stores.{filled-next, filled-end, set-last, lent-zeros, zeros-after}
+use Rattle.rules.specs.Numbers.{largest}
 use Rattle.rules.specs.Supply.{next, opened, split}
 use Rattle.rules.specs.Hash.{Hash, numberOf, filled}
 use Rattle.rules.specs.Standard.{SHA1}
@@ -30,12 +31,12 @@ abbrev H : Hash
 H = SHA1 32
 
 -- ---- the mask of one word: what was drawn for it, opened
-pub mask-made : (n at p r : ℕ) (ws m : List ℕ) → n ≤ 8
-    → next (length {A = ℕ} (take (n - 1 - 0) (replicate 8 0))) ws at ≡ (m, p) → r ≡ opened m
+pub mask-made : (n at p r : ℕ) (ws m : List ℕ) → n ≤ largest
+    → next (length {A = ℕ} (take (n - 1 - 0) (replicate largest 0))) ws at ≡ (m, p) → r ≡ opened m
     → r ≡ opened (next (n - 1) ws at .0)
 mask-made n at p r ws m few e f =
-    let lent : length {A = ℕ} (take (n - 1 - 0) (replicate 8 0)) ≡ n - 1 =
-    ap length (lent-zeros 8 (n - 1) (omega arith)) ∙ length-replicate {A = ℕ} (n - 1) 0 in
+    let lent : length {A = ℕ} (take (n - 1 - 0) (replicate largest 0)) ≡ n - 1 =
+    ap length (lent-zeros largest (n - 1) (omega arith)) ∙ length-replicate {A = ℕ} (n - 1) 0 in
     f ∙ ap (λ (r : Run). opened (r .0)) (sym (rw lent at e))
 
 -- ---- the last shares, one after the other
