@@ -5,7 +5,10 @@ from dataclasses import replace
 from inputs import BytesByValue, Call, FreshWord, FreshWords, Number, Result, Room
 from inputs import Secret, Share, Shares, SharesByValue, Text
 
-STREAMED = Result(106)  # number, count and state
+CHAIN = 80  # words of a chain record
+COMPRESSED = Result(4 + CHAIN)  # number, count and chain
+STREAMED = Result(26 + 2 * CHAIN)  # number, count and state
+SHORT_COUNTS = (1, 2, 4, 8)  # of the short conversion
 
 
 def pairs(n):
@@ -17,7 +20,9 @@ def add_words(n):
 
 
 def a2b_words(n):
-    return 0 if n == 1 else 2 * a2b_words(n // 2) + n + add_words(n)
+    """By halves, each expanded where n is a power of two, else refreshed by n - 1 words."""
+    widened = n if n & (n - 1) == 0 else 2 * (n - 1)
+    return 0 if n == 1 else a2b_words(n // 2) + a2b_words(n - n // 2) + widened + add_words(n)
 
 
 def b2a_words(n):
@@ -53,14 +58,14 @@ def hmac_sha1(n, quick=0, deep=0):
 def sha1_compress(n, quick=0, deep=0):
     """The chain is a struct passed by value, and the answer (number, count and chain) is written where the first argument says."""
     chain, block = Secret("chain", n, words=5), Secret("block", n, words=16)
-    arguments = (Result(44), Number(n), SharesByValue(chain, 40), Shares(block), FreshWords(compress_words(n)))
+    arguments = (COMPRESSED, Number(n), SharesByValue(chain, CHAIN), Shares(block), FreshWords(compress_words(n)))
     kept = {"quick": quick, "deep": deep, **sampled(n, 10007 * n, least=1)}
     return Call(f"sha1_compress, {n} shares", "flamivorse_sha1_compress", arguments, number=0, leaves=True, **kept)
 
 
 def state(n, fed):
     """A state after so many bytes, a struct passed by value. Its chains are secrets; the message never is one."""
-    inner, outer = (SharesByValue(Secret(name, n, words=5), 40) for name in ("inner", "outer"))
+    inner, outer = (SharesByValue(Secret(name, n, words=5), CHAIN) for name in ("inner", "outer"))
     tail = bytes(range(fed % 64)).ljust(64 + 4, b"\0")
     return BytesByValue(struct.pack("<QQI", n, fed, 0)), inner, outer, BytesByValue(tail)
 
@@ -89,12 +94,15 @@ def streaming(n, quick=0, deep=0):
 def conversions(n):
     arithmetic, x = Secret("x", n, by_sum=True), Secret("x", n)
     runs = {"quick": 1000 if n < 8 else 400, "deep": 10000 if n < 8 else 4000}
-    kept = {**runs, **sampled(n, 2039, least=4)}
-    return [
+    kept = {**runs, **sampled(n, 2039, least=3)}
+    both_ways = [
         call("b2a", n, (Shares(x), Room(n), FreshWords(b2a_words(n))), **kept),
         call("a2b", n, (Shares(arithmetic), Room(n), FreshWords(a2b_words(n))), **kept),
-        call("b2a_short", n, (Shares(x), Room(n), FreshWords(short_words(n))), **runs, **sampled(n, 2039, least=8)),
     ]
+    if n not in SHORT_COUNTS:
+        return both_ways
+    words = FreshWords(short_words(n))
+    return [*both_ways, call("b2a_short", n, (Shares(x), Room(n), words), **runs, **sampled(n, 2039, least=8))]
 
 
 def operations(n):
@@ -148,8 +156,8 @@ def two_share_forms():
 
 def queries(n):
     """How many words the calls draw."""
-    by_count = "split refresh expand and add a2b b2a b2a_short sha1_compress hmac_sha1_start".split()
-    asked = {name: (Number(n),) for name in by_count}
+    by_count = "split refresh expand and add a2b b2a sha1_compress hmac_sha1_start".split()
+    asked = {name: (Number(n),) for name in by_count + ["b2a_short"] * (n in SHORT_COUNTS)}
     asked |= {"split_key": (Number(n), Number(64)), "hmac_sha1": (Number(n), Number(3))}
     asked |= {"hmac_sha1_feed": (*state(n, 60), Number(5)), "hmac_sha1_finish": state(n, 3)}
     return [
@@ -173,10 +181,11 @@ COPYING = [
     *streaming(4, quick=80, deep=500),
     *streaming(2, quick=200, deep=2000),
 ]
-SHORT = [one for n in (8, 4, 2) for one in short(n)]
-CALLS = [*COPYING, sha1_compress(8, quick=40, deep=200), *SHORT, *two_share_forms()]
+SHORT = [one for n in (8, 5, 4, 3, 2) for one in short(n)]
+LONG = [sha1_compress(8, quick=40, deep=200), sha1_compress(5, quick=40, deep=200), sha1_compress(3, quick=100, deep=500)]
+CALLS = [*COPYING, *LONG, *SHORT, *two_share_forms()]
 
 # Every call by share count, made once each to see what it leaves behind: nothing, once it is cleared.
-EVERY = {n: [hmac_sha1(n), *streaming(n), sha1_compress(n), long_key(n), *short(n)] for n in (8, 4, 2, 1)}
+EVERY = {n: [hmac_sha1(n), *streaming(n), sha1_compress(n), long_key(n), *short(n)] for n in (16, 8, 4, 3, 2, 1)}
 EVERY[2] += two_share_forms()
 ONCE = [replace(one, name=f"left by {one.name}", leaks=False) for some in EVERY.values() for one in some]

@@ -13,7 +13,7 @@ from inputs import Call
 from tracer import Stopped, compile_tracer, in_own_process
 
 WRITTEN, SECTION = "docs/SPEED.md", "## Stack"  # from the repository's root
-COUNTS = (1, 2, 4, 8)
+COUNTS = (1, 2, 3, 4, 8, 16)
 CLEARING = "clear_stack"
 JOBS, SEED = 2, 1
 
@@ -45,8 +45,8 @@ def measured(archive):
 
 def table(figures):
     """The figures as lines of Markdown. Every call can be made with two shares."""
-    yield "| Call | 1 share | 2 shares | 4 shares | 8 shares |"
-    yield "|---|---|---|---|---|"
+    yield f"| Call | {' | '.join('1 share' if n == 1 else f'{n} shares' for n in COUNTS)} |"
+    yield "|---|" + "---|" * len(COUNTS)
     for row in rows(2):
         function, comma, which = row.partition(", ")
         cells = (f"{figures[row, n]:,}" if (row, n) in figures else "–" for n in COUNTS)
