@@ -175,6 +175,7 @@ COPYING = [
     hmac_sha1(4, quick=40, deep=100),
     hmac_sha1(2, quick=100, deep=400),
     sha1_compress(4, quick=100, deep=500),
+    sha1_compress(3, quick=100, deep=500),
     sha1_compress(2, quick=200, deep=2000),
     long_key(4, quick=40, deep=250),
     long_key(2, quick=100, deep=1000),
@@ -182,7 +183,7 @@ COPYING = [
     *streaming(2, quick=200, deep=2000),
 ]
 SHORT = [one for n in (8, 5, 4, 3, 2) for one in short(n)]
-LONG = [sha1_compress(8, quick=40, deep=200), sha1_compress(5, quick=40, deep=200), sha1_compress(3, quick=100, deep=500)]
+LONG = [sha1_compress(n, quick=40, deep=200) for n in (8, 5)]
 CALLS = [*COPYING, *LONG, *SHORT, *two_share_forms()]
 
 # Every call by share count, made once each to see what it leaves behind: nothing, once it is cleared.

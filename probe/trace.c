@@ -101,17 +101,20 @@ static void put(uint32_t seen, int kind, int where, int number, int lane) {
         ending = OTHER_PATH;
 }
 
-// A value by its words of 32 bits; a wider one by its weight as well.
+// A value by its words of 32 bits; a wider one by the weight of each run of words in it as well, since the shares of a
+// word may fill it or only a part.
 static void put_words(const uint64_t value[2], int bytes, int where, int number) {
-    int words = bytes <= 4 ? 1 : bytes / 4, weight = 0;
+    int words = bytes <= 4 ? 1 : bytes / 4;
     uint32_t mask = bytes >= 4 ? ~0u : (1u << 8 * bytes) - 1;
-    for (int i = 0; i < words; i++) {
-        uint32_t word = (uint32_t)(value[i / 2] >> 32 * (i % 2)) & mask;
-        weight += __builtin_popcount(word);
-        put(word, WORD, where, number, i);
-    }
-    if (words > 1)
-        put(weight, WEIGHT, where, number, 0);
+    for (int first = 0; first < words; first++)
+        for (int last = first, weight = 0; last < words; last++) {
+            uint32_t word = (uint32_t)(value[last / 2] >> 32 * (last % 2)) & mask;
+            weight += __builtin_popcount(word);
+            if (last == first)
+                put(word, WORD, where, number, first);
+            else
+                put(weight, WEIGHT, where, number, first);
+        }
 }
 
 static void put_flags(void) {

@@ -60,8 +60,9 @@ table =
     row (map (λ n. toBool (add 32) (replicate n 0) [] 0 .1)
     (1 ∷ 2 ∷ 3 ∷ 4 ∷ 5 ∷ 6 ∷ 7 ∷ 8 ∷ 9 ∷ 10 ∷ 11 ∷ 12 ∷ 13 ∷ 14 ∷ 15 ∷ 16 ∷ []))
     (0 ∷ 34 ∷ 134 ∷ 264 ∷ 496 ∷ 758 ∷ 1082 ∷ 1432 ∷ 1928 ∷ 2450 ∷ 3034 ∷ 3650 ∷ 4360 ∷ 5102 ∷ 5902 ∷ 6720 ∷ []) ∷
-    -- and the right half of three shares, (11, 22), widened with 01, 02
-    row (widen 3 (0x11 ∷ 0x22 ∷ []) (1 ∷ 2 ∷ []) 0 .0) (0x10 ∷ 0x20 ∷ 3 ∷ []) ∷
+    -- and at 2 bits arithmetic to Boolean of (1, 2, 3) with 2, 1, 3, 1, 0, 3, 2, 1, 1, 3, 0, 2, 1, 2
+    row (toBool (add 2) (1 ∷ 2 ∷ 3 ∷ [])
+    (2 ∷ 1 ∷ 3 ∷ 1 ∷ 0 ∷ 3 ∷ 2 ∷ 1 ∷ 1 ∷ 3 ∷ 0 ∷ 2 ∷ 1 ∷ 2 ∷ []) 0 .0) (0 ∷ 0 ∷ 2 ∷ []) ∷
     []
 
 pub reference : map (λ (r : Row). r .given) table ≡ map (λ (r : Row). r .stated) table
