@@ -45,12 +45,12 @@ module _ (n m at : ℕ) (b : Bool) (is : b ≡ powerOfTwo n) where
   pub expand-place : (p half : ℕ) → b ≡ true → half ≡ m → p ≡ at + half → p ≡ at + widenDraws n m
   expand-place p half e k h = h ∙ rw (sym is ∙ e, k)
 
-  module _ (came y half : List ℕ) (e : b ≡ false) (l : length came ≡ n) (put : y ≡ sets came 0 half) where
+  module _ (came y half : List ℕ) (i : ℕ) (e : b ≡ false) (l : length came ≡ n) (put : y ≡ sets came i half) where
     pub refresh-room : (have : ℕ) → at + widenDraws n m ≤ have → at + (length y - 1) ≤ have
-    refresh-room have h = rw (put, length-sets came 0 half, l) (rw (sym is ∙ e) at h)
+    refresh-room have h = rw (put, length-sets came i half, l) (rw (sym is ∙ e) at h)
 
     pub refresh-place : (p : ℕ) → p ≡ at + (length y - 1) → p ≡ at + widenDraws n m
-    refresh-place p h = h ∙ rw (sym is ∙ e, put, length-sets came 0 half, l)
+    refresh-place p h = h ∙ rw (sym is ∙ e, put, length-sets came i half, l)
 
 module _ (n : ℕ) (half x ws : List ℕ) (at p : ℕ) (b : Bool) (is : b ≡ powerOfTwo n) where
   pub widen-expanded : b ≡ true → expand half ws at ≡ (x, p) → widen n half ws at ≡ (x, p)
