@@ -6,12 +6,13 @@
  * The key is the bytes of its file, at most 1,024. The random words come from /dev/urandom, and each is used once.
  *
  * A call needs all its words at once. The key takes 192 bytes of them, or where it has more than 64 bytes and is hashed
- * up to 4.3 MB; the log takes up to 17 MB, and the key's are given back before. */
+ * up to 4.3 MB, and they are given back before the log's are made. A log of 4,096 bytes takes 17 MB, the longest, of
+ * 65,536 bytes, 258 MB: examples/stream.c does with the same few words however long a log is. */
 #include <flamivorse.h>
 #include <stdio.h>
 #include <stdlib.h>
 
-enum { SHARES = 4, KEY_WORDS = 16 * SHARES, KEY_LIMIT = 1024, LOG_LIMIT = 4096, TAG_BYTES = 20 };
+enum { SHARES = 4, KEY_WORDS = 16 * SHARES, KEY_LIMIT = 1024, LOG_LIMIT = 65536, TAG_BYTES = 20 };
 
 /* Ends the program with a word of why. */
 static void stop(const char *what, const char *why)

@@ -7,20 +7,28 @@
  *  - the pointer is not null, even where the length is 0;
  *  - a slice that is written overlaps no other.
  *
- * Shares: n is 1, 2, 4 or 8. Boolean shares of a word give it by XOR, arithmetic shares by their sum modulo 2^32. Of several words,
- * share i of word w (both from 0) stands at place w * n + i.
+ * Shares: n is 1 to 16; for the short conversion alone it is 1, 2, 4 or 8. Boolean shares of a word give it by XOR,
+ * arithmetic shares by their sum modulo 2^32. Of several words, share i of word w (both from 0) stands at place
+ * w * n + i.
  *
- * Words: the random words that a call draws are lent as a slice, used from its start and never written. Each must be fresh: no word
- * serves two draws. Words after those drawn have no influence. The queries at the end say how many words a call draws.
+ * Words: the random words that a call draws are lent as a slice, used from its start and never written. Each must be
+ * fresh: no word serves two draws. Words after those drawn have no influence. The queries at the end say how many words
+ * a call draws.
+ *
+ * All words of a call are lent at once, and flamivorse_hmac_sha1 draws up to 1,287,878,400 of them, 5 GB (16 shares and
+ * 65,536 bytes): at many shares a long message is to be streamed. A compression draws 5,220n(n-1) words: 10,440 at two
+ * shares, 1,252,800 at 16, which are 5 MB. A start draws those of two compressions, a finish those of two or three. A
+ * feed draws those of (waiting + piece_len) / 64 compressions, rounded down, where waiting is how many bytes wait for
+ * their block to become full (bytes % 64 of the state): for a piece of 64 bytes always those of one.
  *
  * Numbers handed back; where several apply, 6 comes before all others, and of the others the least is given:
  *   0  done
- *   1  the share count is not 1, 2, 4 or 8
+ *   1  the share count is 0 or over 16, or of flamivorse_b2a_short not 1, 2, 4 or 8
  *   2  an input slice has not exactly the length that the share count asks for
  *   3  an output slice or record has not exactly its length
- *   4  the message is over 4,096 bytes, or the key given for splitting is over 1,024
+ *   4  the message is over 65,536 bytes, or the key given for splitting is over 1,024
  *   5  fewer words are lent than the call draws
- *   6  the state is finished, its share count is not 1, 2, 4 or 8, or its byte count is over 4,096
+ *   6  the state is finished, its share count is 0 or over 16, or its byte count is over 65,536
  * A refusal reports 0 words drawn and leaves every slice as it came. Where a call takes a state, 1 is never given.
  *
  * What stays behind: a call leaves shares on the stack below its caller and in registers, and splitting may leave bytes
@@ -50,8 +58,9 @@ typedef struct { uint32_t number; uint64_t drawn; } flamivorse_answer;
 /* The number, and the opened word; 0 where refused. */
 typedef struct { uint32_t number; uint32_t word; } flamivorse_opened;
 
-/* A chain value of SHA-1 in shares. The first 5n places are used; the others are not looked at, and are 0 in an accepted answer. */
-typedef struct { uint32_t shares[40]; } flamivorse_chain;
+/* A chain value of SHA-1 in shares. The first 5n places are used; the others are not looked at, and are 0 in an
+ * accepted answer. */
+typedef struct { uint32_t shares[80]; } flamivorse_chain;
 
 /* The number, how many words were drawn, and the chain after; where refused, the chain exactly as given. */
 typedef struct { uint32_t number; uint64_t drawn; flamivorse_chain chain; } flamivorse_compressed;
@@ -106,7 +115,8 @@ flamivorse_opened flamivorse_open_sum(size_t n, const uint32_t *shares, size_t s
 flamivorse_answer flamivorse_refresh(size_t n, const uint32_t *x, size_t x_len, uint32_t *y, size_t y_len,
                                      const uint32_t *words, size_t words_len);
 
-/* Writes to y, of 2n words, twice as many Boolean shares of what x shares; draws n words. Refuses with 1, 2, 3, 5. */
+/* Writes to y, of 2n words, twice as many Boolean shares of what x shares; draws n words. From n = 9 on these are more
+ * shares than any call takes. Refuses with 1, 2, 3, 5. */
 flamivorse_answer flamivorse_expand(size_t n, const uint32_t *x, size_t x_len, uint32_t *y, size_t y_len,
                                     const uint32_t *words, size_t words_len);
 
@@ -119,18 +129,20 @@ flamivorse_answer flamivorse_and(size_t n, const uint32_t *x, size_t x_len, cons
 flamivorse_answer flamivorse_add(size_t n, const uint32_t *x, size_t x_len, const uint32_t *y, size_t y_len,
                                  uint32_t *z, size_t z_len, const uint32_t *words, size_t words_len);
 
-/* Arithmetic to Boolean: writes to x Boolean shares of what a shares arithmetically; draws 0, 34, 264 or 1,432 words.
+/* Arithmetic to Boolean: writes to x Boolean shares of what a shares arithmetically. Draws, for n = 1 to 16, 0, 34,
+ * 134, 264, 496, 758, 1,082, 1,432, 1,928, 2,450, 3,034, 3,650, 4,360, 5,102, 5,902 or 6,720 words.
  * Refuses with 1, 2, 3, 5. */
 flamivorse_answer flamivorse_a2b(size_t n, const uint32_t *a, size_t a_len, uint32_t *x, size_t x_len,
                                  const uint32_t *words, size_t words_len);
 
-/* Boolean to arithmetic: writes to a arithmetic shares of what x shares by XOR; draws 0, 68, 465 or 2,363 words.
+/* Boolean to arithmetic: writes to a arithmetic shares of what x shares by XOR. Draws, for n = 1 to 16, 0, 68, 235,
+ * 465, 830, 1,258, 1,781, 2,363, 3,124, 3,944, 4,859, 5,839, 6,946, 8,118, 9,381 or 10,695 words.
  * Refuses with 1, 2, 3, 5. */
 flamivorse_answer flamivorse_b2a(size_t n, const uint32_t *x, size_t x_len, uint32_t *a, size_t a_len,
                                  const uint32_t *words, size_t words_len);
 
 /* Boolean to arithmetic by the short conversion, which has no carry loop: writes to a arithmetic shares of what x
- * shares by XOR, as flamivorse_b2a does, but draws only 0, 4, 40 or 868 words. n is 1, 2, 4 or 8.
+ * shares by XOR, as flamivorse_b2a does, but draws only 0, 4, 40 or 868 words. n is 1, 2, 4 or 8, and no other.
  * Refuses with 1, 2, 3, 5. */
 flamivorse_answer flamivorse_b2a_short(size_t n, const uint32_t *x, size_t x_len, uint32_t *a, size_t a_len,
                                        const uint32_t *words, size_t words_len);
@@ -154,8 +166,9 @@ flamivorse_answer flamivorse_split_key(size_t n, const uint8_t *key, size_t key_
 flamivorse_compressed flamivorse_sha1_compress(size_t n, flamivorse_chain chain, const uint32_t *block, size_t block_len,
                                                const uint32_t *words, size_t words_len);
 
-/* The HMAC-SHA-1 tag of a whole message of at most 4,096 bytes, under a key of 16n words as flamivorse_split_key writes it: writes the
- * opened tag, of 20 bytes. Nothing else is opened. Draws the words of (message_len + 8) / 64 + 4 compressions.
+/* The HMAC-SHA-1 tag of a whole message of at most 65,536 bytes, under a key of 16n words as flamivorse_split_key
+ * writes it: writes the opened tag, of 20 bytes. Nothing else is opened. Draws the words of (message_len + 8) / 64 + 4
+ * compressions.
  * Refuses with 1, 2 (the key), 3 (the tag), 4, 5. */
 flamivorse_answer flamivorse_hmac_sha1(size_t n, const uint32_t *key, size_t key_len, const uint8_t *message, size_t message_len,
                                        uint8_t *tag, size_t tag_len, const uint32_t *words, size_t words_len);
@@ -172,7 +185,7 @@ flamivorse_streamed flamivorse_hmac_sha1_start(size_t n, const uint32_t *key, si
 /* The state after one more piece, of any length: each block that becomes full is compressed at once, and the bytes
  * after it wait in the tail. Draws the words of a compression for each such block. Chain words from place 5n on and
  * tail bytes from bytes % 64 on are not looked at, and are 0 in an accepted answer, of an empty piece too.
- * Refuses with 6, 4 (all pieces together would be over 4,096 bytes), 5, in this order. */
+ * Refuses with 6, 4 (all pieces together would be over 65,536 bytes), 5, in this order. */
 flamivorse_streamed flamivorse_hmac_sha1_feed(flamivorse_state state, const uint8_t *piece, size_t piece_len,
                                               const uint32_t *words, size_t words_len);
 

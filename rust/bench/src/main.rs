@@ -10,7 +10,7 @@
 mod optimised;
 mod plot;
 
-use flamivorse::{Chain, State, TAG_BYTES};
+use flamivorse::{Chain, State, MESSAGE_LIMIT, TAG_BYTES};
 use optimised::{Convert, ConvertShort, Optimised, Supply};
 use std::hint::black_box;
 use std::time::{Duration, Instant};
@@ -37,8 +37,10 @@ fn key(step: &str) -> &'static [u8] {
     }
 }
 
-/// The longest message, which a tag is of unless its length is given.
-const MESSAGE: &[u8] = &[0x61; flamivorse::MESSAGE_LIMIT];
+/// The longest message, and how many bytes of it a tag is of unless its length is given: at 8 shares
+/// the words of one call still fit into memory.
+const MESSAGE: &[u8] = &[0x61; MESSAGE_LIMIT];
+const TAGGED: usize = 4096;
 
 /// The pieces of a streamed message: blocks, the shortest with which each feed has one to compress.
 const PIECE: usize = 64;
@@ -117,7 +119,7 @@ fn archive<const N: usize>(step: &str, lent: Lent) -> Step {
             digest(z)
         }),
         "compression" => Box::new(move || {
-            let mut chain = Chain { shares: [0; 40] };
+            let mut chain = Chain::default();
             chain.shares[..5 * N].copy_from_slice(&input[..5 * N]);
             flamivorse::sha1_compress(N, &mut chain, black_box(&input[..16 * N]), words)
                 .expect(DONE);
@@ -265,7 +267,7 @@ fn table() {
     println!("|---|---|---|---|---|");
     for step in STEPS {
         for n in COUNTS {
-            let [archive, rust] = measure(compared(step, n, MESSAGE.len()));
+            let [archive, rust] = measure(compared(step, n, TAGGED));
             println!(
                 "| {step} | {n} | {archive:.3} | {rust:.3} | {:.2} |",
                 archive / rust
@@ -301,7 +303,7 @@ fn main() -> std::io::Result<()> {
             let [archive, _] = sides("tag", number(n), number(bytes));
             println!("{:.3}", measure([archive])[0]);
         }
-        [step, n, side, repeats] => repeat(step, n, side, repeats, MESSAGE.len()),
+        [step, n, side, repeats] => repeat(step, n, side, repeats, TAGGED),
         [step, n, side, repeats, bytes] => repeat(step, n, side, repeats, number(bytes)),
         _ => table(),
     }

@@ -32,7 +32,7 @@ With no LOG or TAGS, or where it is -, standard input is read.
 Options:
   --key FILE      the key: the bytes of FILE as they stand, at most 1,024; a
                   line end at the end of FILE is part of it
-  --shares N      work with N shares: 1, 2, 4 or 8 (4 unless said otherwise)
+  --shares N      work with N shares, 1 to 16 (4 unless said otherwise)
   --words FILE    take the random words from FILE, four bytes a word, the most
                   significant first, so that a run can be repeated; unless said
                   otherwise they come from the operating system
@@ -41,9 +41,10 @@ Options:
   -h, --help      print this
   -V, --version   print the version
 
-A log has at most 4,096 bytes. Keys of up to 64 bytes all draw the same few
-words; a longer one is hashed in shares, as HMAC has it, and draws many more:
-words --key-length K says how many.
+A log has at most 65,536 bytes. It is tagged block by block, so that few of its
+words are in memory at once. Keys of up to 64 bytes all draw the same few words;
+a longer one is hashed in shares, as HMAC has it, and draws many more, all at
+once: words --key-length K says how many.
 
 Exit status: 0 if all was done and every tag was right; 1 if a tag was not
 right, or a list had none, whatever else happened; 2 if something could not be

@@ -32,25 +32,25 @@ impl fmt::Display for Drawn {
 /// ```
 /// use flamivorse::{open_xor, Refusal};
 ///
-/// assert_eq!(open_xor(3, &[1, 2, 4]), Err(Refusal::ShareCount));
+/// assert_eq!(open_xor(17, &[0; 17]), Err(Refusal::ShareCount));
 /// assert_eq!(Refusal::ShareCount.number(), 1);
-/// assert_eq!(Refusal::ShareCount.to_string(), "the share count is not 1, 2, 4 or 8");
+/// assert_eq!(Refusal::OutputLength.to_string(), "an output has not exactly its length");
 /// ```
 #[derive(Clone, Copy, Debug, PartialEq, Eq, Hash)]
 #[non_exhaustive]
 pub enum Refusal {
-    /// Number 1: the share count is not 1, 2, 4 or 8.
+    /// Number 1: the share count is 0 or over 16, or of the short conversion not 1, 2, 4 or 8.
     ShareCount,
     /// Number 2: an input slice has not exactly the length that the share count asks for.
     InputLength,
     /// Number 3: an output slice or record has not exactly its length.
     OutputLength,
-    /// Number 4: the message is over 4,096 bytes, or the key given for splitting is over 1,024.
+    /// Number 4: the message is over 65,536 bytes, or the key given for splitting is over 1,024.
     TooLong,
     /// Number 5: fewer random words are lent than the call draws.
     SupplyShort,
-    /// Number 6: the state is finished, its share count is not 1, 2, 4 or 8, or its byte count is over
-    /// 4,096.
+    /// Number 6: the state is finished, its share count is 0 or over 16, or its byte count is over
+    /// 65,536.
     StateUnfit,
     /// Another number. No call hands one back; it would mean an archive of another version.
     Unknown(u32),
@@ -75,12 +75,14 @@ impl Refusal {
 impl fmt::Display for Refusal {
     fn fmt(&self, f: &mut fmt::Formatter<'_>) -> fmt::Result {
         f.write_str(match self {
-            Refusal::ShareCount => "the share count is not 1, 2, 4 or 8",
+            Refusal::ShareCount => {
+                "the share count is 0 or over 16, or of the short conversion not 1, 2, 4 or 8"
+            }
             Refusal::InputLength => {
                 "an input has not exactly the length that the share count asks for"
             }
             Refusal::OutputLength => "an output has not exactly its length",
-            Refusal::TooLong => "the message is over 4,096 bytes, or the key is over 1,024",
+            Refusal::TooLong => "the message is over 65,536 bytes, or the key is over 1,024",
             Refusal::SupplyShort => "there are fewer random words than the call draws",
             Refusal::StateUnfit => {
                 "the state is finished, or its share count or byte count is not allowed"

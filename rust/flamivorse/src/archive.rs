@@ -2,7 +2,7 @@
 //! this file hold the two together.
 
 use crate::answer;
-use crate::{Drawn, Refusal};
+use crate::{Drawn, Refusal, SHARES_LIMIT};
 use std::arch::asm;
 use std::fmt;
 use zeroize::Zeroize;
@@ -40,6 +40,9 @@ impl Opened {
     }
 }
 
+/// How many words a [`Chain`] has: SHA-1's five in as many shares as there can be.
+pub const CHAIN_WORDS: usize = 5 * SHARES_LIMIT;
+
 /// A chain value of SHA-1 in Boolean shares, cleared when dropped.
 ///
 /// The first 5n places are used: share i of chain word w at place w·n + i. The others are not
@@ -48,7 +51,16 @@ impl Opened {
 #[derive(Clone)]
 pub struct Chain {
     /// The shares.
-    pub shares: [u32; 40],
+    pub shares: [u32; CHAIN_WORDS],
+}
+
+impl Default for Chain {
+    /// Zeros.
+    fn default() -> Chain {
+        Chain {
+            shares: [0; CHAIN_WORDS],
+        }
+    }
 }
 
 impl Drop for Chain {
@@ -100,8 +112,8 @@ impl Default for State {
             n: 0,
             bytes: 0,
             finished: 0,
-            inner: Chain { shares: [0; 40] },
-            outer: Chain { shares: [0; 40] },
+            inner: Chain::default(),
+            outer: Chain::default(),
             tail: [0; 64],
         }
     }

@@ -2,7 +2,7 @@
 
 use crate::answer::drawn;
 use crate::archive::{call, cleared, flamivorse_sha1_compress, queries, query};
-use crate::{Chain, Drawn, Refusal};
+use crate::{Chain, Drawn, Refusal, SHARES_LIMIT};
 use std::fmt;
 use zeroize::Zeroizing;
 
@@ -10,16 +10,13 @@ use zeroize::Zeroizing;
 pub const KEY_LIMIT: usize = 1024;
 
 /// The longest message that can be tagged, in bytes.
-pub const MESSAGE_LIMIT: usize = 4096;
+pub const MESSAGE_LIMIT: usize = 65_536;
 
 /// The length of a tag, in bytes.
 pub const TAG_BYTES: usize = 20;
 
 /// The words of a key block.
 const KEY_WORDS: usize = 16;
-
-/// The largest share count.
-const MOST_SHARES: usize = 8;
 
 /// Splits a key of at most [`KEY_LIMIT`] bytes into the Boolean shares of HMAC's key block, 16
 /// big-endian words.
@@ -66,7 +63,7 @@ pub fn split_key(
 /// use flamivorse::{sha1_compress, Chain};
 ///
 /// // The digest of the empty message, in one share.
-/// let mut chain = Chain { shares: [0; 40] };
+/// let mut chain = Chain::default();
 /// chain.shares[..5].copy_from_slice(&[0x67452301, 0xefcdab89, 0x98badcfe, 0x10325476, 0xc3d2e1f0]);
 /// let mut block = [0; 16];
 /// block[0] = 0x80000000;
@@ -101,6 +98,10 @@ pub fn sha1_compress(
 /// words as [`split_key`] writes it.
 ///
 /// `tag` has [`TAG_BYTES`] bytes. The tag is opened, and nothing else.
+///
+/// All its words are lent at once, those of a compression for each block of the message: for a long
+/// message at many shares they are more than most memories hold ([`hmac_sha1_words`]). A
+/// [`Stream`](crate::Stream) gives the same tag block by block.
 ///
 /// ```
 /// use flamivorse::{hmac_sha1, split_key, TAG_BYTES};
@@ -147,10 +148,11 @@ pub fn split_key_words(n: usize, key_len: usize) -> Result<Drawn, Refusal> {
 /// How many words [`hmac_sha1`] draws at n shares for a message of `message_len` bytes.
 ///
 /// ```
-/// use flamivorse::{hmac_sha1_words, Refusal};
+/// use flamivorse::{hmac_sha1_words, Refusal, MESSAGE_LIMIT};
 ///
 /// assert_eq!(hmac_sha1_words(2, 55)?.words(), 41_760);
-/// assert_eq!(hmac_sha1_words(2, 4097), Err(Refusal::TooLong));
+/// assert_eq!(hmac_sha1_words(16, MESSAGE_LIMIT)?.words(), 1_287_878_400);
+/// assert_eq!(hmac_sha1_words(2, MESSAGE_LIMIT + 1), Err(Refusal::TooLong));
 /// # Ok::<(), Refusal>(())
 /// ```
 pub fn hmac_sha1_words(n: usize, message_len: usize) -> Result<Drawn, Refusal> {
@@ -176,7 +178,7 @@ impl Key {
     /// Splits a key of at most [`KEY_LIMIT`] bytes into n shares, as [`split_key`] does: one of
     /// over 64 bytes is hashed, and draws many more words ([`split_key_words`]).
     pub fn split(n: usize, key: &[u8], words: &[u32]) -> Result<Key, Refusal> {
-        let length = KEY_WORDS * n.min(MOST_SHARES);
+        let length = KEY_WORDS * n.min(SHARES_LIMIT);
         let mut shares = Zeroizing::new(vec![0; length]);
         split_key(n, key, &mut shares, words)?;
         Ok(Key { n, shares })

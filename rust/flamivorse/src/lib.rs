@@ -35,7 +35,8 @@
 //!
 //! # Shares
 //!
-//! The share count n is 1, 2, 4 or 8. Boolean shares of a word give it by XOR, arithmetic shares by
+//! The share count n is 1 to [`SHARES_LIMIT`], every one of them; the short conversion alone takes no
+//! others than [`B2A_SHORT_COUNTS`]. Boolean shares of a word give it by XOR, arithmetic shares by
 //! their sum modulo 2^32. Of several words, share i of word w (both from 0) stands at place
 //! w·n + i.
 //!
@@ -48,6 +49,10 @@
 //! Each call that draws random words takes them as a slice, uses them from its start, and says how
 //! many it drew. Each word must be fresh: no word may serve two draws. For every such call a query
 //! of the same name with `_words` says how many it draws, and a [`Supply`] lends as many.
+//!
+//! They grow with n(n − 1): a tag of the longest message at 16 shares draws 1.3·10^9 words, which are
+//! 5 GB. A [`Stream`] that is fed by blocks asks for the words of three compressions at once at most,
+//! there 15 MB.
 
 #![deny(missing_docs)]
 #![deny(unsafe_op_in_unsafe_fn)]
@@ -64,7 +69,7 @@ mod supply;
 mod two;
 
 pub use answer::{Drawn, Refusal};
-pub use archive::{Chain, State};
+pub use archive::{Chain, State, CHAIN_WORDS};
 pub use hmac::{
     hmac_sha1, hmac_sha1_words, sha1_compress, sha1_compress_words, split_key, split_key_words,
     Key, KEY_LIMIT, MESSAGE_LIMIT, TAG_BYTES,
@@ -72,6 +77,7 @@ pub use hmac::{
 pub use shares::{
     a2b, a2b_words, add, add_words, and, and_words, b2a, b2a_short, b2a_short_words, b2a_words,
     expand, expand_words, open_sum, open_xor, refresh, refresh_words, split, split_words,
+    B2A_SHORT_COUNTS, SHARES_LIMIT,
 };
 pub use stream::{
     hmac_sha1_feed, hmac_sha1_feed_words, hmac_sha1_finish, hmac_sha1_finish_words,

@@ -7,6 +7,12 @@
 use crate::archive::{call, cleared, flamivorse_open_sum, flamivorse_open_xor, queries};
 use crate::{Drawn, Refusal};
 
+/// The largest share count. Every count from 1 to it is allowed.
+pub const SHARES_LIMIT: usize = 16;
+
+/// The share counts that [`b2a_short`] takes, and its query.
+pub const B2A_SHORT_COUNTS: [usize; 4] = [1, 2, 4, 8];
+
 /// Splits a value into n Boolean shares.
 ///
 /// ```
@@ -54,7 +60,8 @@ pub fn refresh(n: usize, x: &[u32], y: &mut [u32], words: &[u32]) -> Result<Draw
     call!(flamivorse_refresh(n), reads [x], writes y, draws words).result()
 }
 
-/// Writes to `y`, of 2n words, twice as many Boolean shares of what `x` shares.
+/// Writes to `y`, of 2n words, twice as many Boolean shares of what `x` shares. From n = 9 on these
+/// are more shares than any call takes.
 ///
 /// ```
 /// let mut y = [0; 4];
@@ -124,16 +131,17 @@ pub fn b2a(n: usize, x: &[u32], a: &mut [u32], words: &[u32]) -> Result<Drawn, R
 }
 
 /// Boolean to arithmetic by the short conversion, which has no carry loop: writes to `a` arithmetic
-/// shares of what `x` shares by XOR, as [`b2a`] does, but draws fewer words. The share count is 1, 2,
-/// 4 or 8.
+/// shares of what `x` shares by XOR, as [`b2a`] does, but draws fewer words. The share count is one
+/// of [`B2A_SHORT_COUNTS`].
 ///
 /// ```
-/// use flamivorse::{b2a_short, b2a_short_words, open_sum, Supply};
+/// use flamivorse::{b2a_short, b2a_short_words, open_sum, Refusal, Supply};
 ///
 /// let mut supply = Supply::from_system()?;
 /// let mut a = [0; 2];
 /// b2a_short(2, &[1001, 1], &mut a, supply.lend(b2a_short_words(2)?)?)?;
 /// assert_eq!(open_sum(2, &a), Ok(1000));
+/// assert_eq!(b2a_short_words(3), Err(Refusal::ShareCount));
 /// # Ok::<(), Box<dyn std::error::Error>>(())
 /// ```
 pub fn b2a_short(n: usize, x: &[u32], a: &mut [u32], words: &[u32]) -> Result<Drawn, Refusal> {

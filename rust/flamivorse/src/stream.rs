@@ -108,11 +108,11 @@ queries! {
 /// How many words [`hmac_sha1_feed`] draws for a piece of `piece_len` bytes.
 ///
 /// ```
-/// use flamivorse::{hmac_sha1_feed_words, Refusal, State};
+/// use flamivorse::{hmac_sha1_feed_words, Refusal, State, MESSAGE_LIMIT};
 ///
 /// let mut state = State::default();
 /// assert_eq!(hmac_sha1_feed_words(&state, 1), Err(Refusal::StateUnfit));
-/// (state.n, state.bytes) = (2, 4095);
+/// (state.n, state.bytes) = (2, MESSAGE_LIMIT as u64 - 1);
 /// assert_eq!(hmac_sha1_feed_words(&state, 1)?.words(), 10_440);
 /// assert_eq!(hmac_sha1_feed_words(&state, 2), Err(Refusal::TooLong));
 /// # Ok::<(), Refusal>(())
@@ -252,7 +252,7 @@ impl Stream {
     ///
     /// ```
     /// use flamivorse::{split_key_words, Key, Refusal, Supply, MESSAGE_LIMIT};
-    /// use std::io;
+    /// use std::io::{self, Write};
     ///
     /// let mut log = &b"what do ya want for nothing?"[..];    // or a file, or a socket
     /// let mut supply = Supply::from_system()?;
@@ -261,7 +261,7 @@ impl Stream {
     /// io::copy(&mut log, &mut stream.writer(&mut supply))?;
     ///
     /// // What is refused is an error that has the refusal inside, and nothing of it is taken.
-    /// let error = io::copy(&mut &[0; MESSAGE_LIMIT][..], &mut stream.writer(&mut supply)).unwrap_err();
+    /// let error = stream.writer(&mut supply).write_all(&[0; MESSAGE_LIMIT]).unwrap_err();
     /// assert_eq!(error.get_ref().and_then(|inner| inner.downcast_ref()), Some(&Refusal::TooLong));
     ///
     /// let tag = stream.finish(supply.lend(stream.finish_words()?)?)?;

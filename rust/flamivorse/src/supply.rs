@@ -92,6 +92,9 @@ impl<S: Source> Supply<S> {
     /// Lends as many fresh words as a query says, or gives the source's error.
     pub fn lend(&mut self, count: Drawn) -> Result<&[u32], S::Error> {
         self.words.zeroize();
+        // A long key draws many more words than a block does. Their room, if it were kept, would be
+        // cleared again before each block.
+        self.words.shrink_to(count.words());
         self.words.resize(count.words(), 0);
         self.source.fill(&mut self.words)?;
         Ok(&self.words)

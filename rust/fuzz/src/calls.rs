@@ -5,14 +5,28 @@ use crate::by_c;
 use crate::lent::{Arguments, Lengths, Outline};
 use crate::states::{by_archive, by_second};
 use flamivorse::{
-    Chain, Drawn, Refusal, State, A2B_2_STEPS, B2A_2_STEPS, KEY_LIMIT, MESSAGE_LIMIT, TAG_BYTES,
+    Chain, Drawn, Refusal, State, A2B_2_STEPS, B2A_2_STEPS, B2A_SHORT_COUNTS, KEY_LIMIT,
+    MESSAGE_LIMIT, SHARES_LIMIT, TAG_BYTES,
 };
 
-/// The share counts that are not refused.
-pub const COUNTS: [usize; 4] = [1, 2, 4, 8];
+/// The share counts that are not refused; by the short conversion most of them are.
+pub const COUNTS: [usize; SHARES_LIMIT] = [1, 2, 3, 4, 5, 6, 7, 8, 9, 10, 11, 12, 13, 14, 15, 16];
 
-/// Share counts that are refused.
-pub const WRONG_COUNTS: [usize; 8] = [0, 3, 5, 6, 7, 9, 1 << 31, usize::MAX];
+/// Those of them at which slow calls are tried: the few that have forms of their own, small and large
+/// ones of the others, and the largest.
+pub const SOME_COUNTS: [usize; 7] = [1, 2, 3, 4, 5, 8, SHARES_LIMIT];
+
+/// The longest message that is tagged often at so many shares.
+pub fn quick_message(n: usize) -> usize {
+    match n {
+        1..=4 => 4096,
+        5..=8 => 1024,
+        _ => 128,
+    }
+}
+
+/// Share counts that every call refuses.
+pub const WRONG_COUNTS: [usize; 5] = [0, SHARES_LIMIT + 1, 2 * SHARES_LIMIT, 1 << 31, usize::MAX];
 
 /// How the archive is reached: through the Rust calls, or from C through the header.
 #[derive(Clone, Copy, Debug)]
@@ -108,6 +122,8 @@ pub struct Call {
     pub name: &'static str,
     /// Whether it takes a state.
     pub on_state: bool,
+    /// The share counts that it does not refuse.
+    pub counts: &'static [usize],
     /// Words in each input, for each share.
     pub inputs: [usize; 2],
     /// The most bytes it takes.
@@ -123,6 +139,17 @@ pub struct Call {
 }
 
 impl Call {
+    /// Share counts that the call refuses, among them all those that others do not.
+    pub fn wrong_counts(&self) -> Vec<usize> {
+        let others = COUNTS.into_iter().filter(|n| !self.counts.contains(n));
+        others.chain(WRONG_COUNTS).collect()
+    }
+
+    /// Whether the call compresses, whatever it is lent.
+    pub fn is_slow(&self) -> bool {
+        self.name.contains("sha1")
+    }
+
     /// The lengths that the call asks for, on a state or at a share count.
     pub fn lengths(&self, state: impl Into<Outline>, bytes: usize) -> Lengths {
         let state = state.into();
@@ -215,6 +242,7 @@ fn second_compress(a: &mut Arguments) -> Outcome {
 const OPENING: Call = Call {
     name: "open_xor",
     on_state: false,
+    counts: &COUNTS,
     inputs: [1, 0],
     limit: None,
     output: 0,
@@ -368,6 +396,7 @@ pub static CALLS: [Call; 13] = [
     },
     Call {
         name: "b2a_short",
+        counts: &B2A_SHORT_COUNTS,
         output: 1,
         made: both!(|a| b2a_short(
             a.n,

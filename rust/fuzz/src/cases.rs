@@ -1,16 +1,18 @@
 //! Random cases: a call or a query with a share count, lengths and contents of any kind, right and
 //! wrong ones mixed. A seed and a number give the same case on every machine.
 
-use crate::calls::{
-    Call, Outcome, Target, CALLS, COUNTS, STREAM_CALLS, TWO_SHARE_CALLS, WRONG_COUNTS,
-};
+use crate::calls::{quick_message, Call, Outcome, Target, CALLS, STREAM_CALLS, TWO_SHARE_CALLS};
 use crate::lent::{Arguments, Lengths, Outline};
 use crate::random::Random;
-use flamivorse::{KEY_LIMIT, MESSAGE_LIMIT};
+use flamivorse::{KEY_LIMIT, MESSAGE_LIMIT, SHARES_LIMIT};
 
 /// Every so manieth case is of a message in pieces. The number decides, and nothing drawn, so that
 /// all other cases are what they would be without these.
 const STREAMED: u32 = 24;
+
+/// A call that draws more words than these is lent a few: the longest message at two shares draws no
+/// more, and at 16 it draws so many that no memory holds them.
+const MOST_WORDS: usize = 1 << 24;
 
 /// What is asked of a call: to be made, or how many words it draws.
 enum Asked {
@@ -61,7 +63,7 @@ fn query(random: &mut Random) -> Case {
     let asked: Vec<&Call> = CALLS.iter().filter(|call| call.query.is_some()).collect();
     let call = asked[random.below(asked.len())];
     let fitting = fitting(call, random);
-    let state = count(fitting, random).into();
+    let state = count(call, fitting, random).into();
     let bytes = asked_length(random, |random| bytes(call, random));
     let asked = Asked::Query { state, bytes };
     Case { call, asked }
@@ -70,7 +72,7 @@ fn query(random: &mut Random) -> Case {
 /// A query on a state.
 fn query_on_state(random: &mut Random) -> Case {
     let call = &STREAM_CALLS[random.below(STREAM_CALLS.len())];
-    let state = with_count(made_up(call, random), random);
+    let state = with_count(call, made_up(call, random), random);
     let bytes = asked_length(random, |random| piece(call, state.fed, random));
     let asked = Asked::Query { state, bytes };
     Case { call, asked }
@@ -90,9 +92,9 @@ fn asked_length(random: &mut Random, length: impl Fn(&mut Random) -> usize) -> u
 fn made(random: &mut Random) -> Case {
     let call = pick(random);
     let fitting = fitting(call, random);
-    let right = call.lengths(fitting, quick_bytes(call, random));
+    let right = call.lengths(fitting, quick_bytes(call, fitting, random));
     let lengths = lengths(right, random);
-    let mut arguments = Arguments::random(count(fitting, random), lengths, random);
+    let mut arguments = Arguments::random(count(call, fitting, random), lengths, random);
     if random.below(4) == 0 {
         arguments.to_edges(random);
     }
@@ -106,7 +108,7 @@ fn made_on_state(random: &mut Random) -> Case {
     let state = made_up(call, random);
     let right = call.lengths(state, piece(call, state.fed, random));
     let mut arguments = Arguments::random(state.n, lengths(right, random), random);
-    arguments.make_up(with_count(state, random), random);
+    arguments.make_up(with_count(call, state, random), random);
     if random.below(4) == 0 {
         arguments.to_edges(random);
     }
@@ -124,8 +126,8 @@ fn made_up(call: &Call, random: &mut Random) -> Outline {
 }
 
 /// The same with the share count that is given.
-fn with_count(state: Outline, random: &mut Random) -> Outline {
-    let n = count(state.n, random);
+fn with_count(call: &Call, state: Outline, random: &mut Random) -> Outline {
+    let n = count(call, state.n, random);
     Outline { n, ..state }
 }
 
@@ -141,7 +143,10 @@ fn fed(random: &mut Random) -> u64 {
         4 => random.below(MESSAGE_LIMIT + 1) as u64,
         5 | 6 => limit,
         7..=12 => limit - few,
-        13..=18 => (64 * random.below(64) + [0, 1, 55, 56, 63][random.below(5)]) as u64,
+        13..=18 => {
+            let blocks = random.below(MESSAGE_LIMIT / 64);
+            (64 * blocks + [0, 1, 55, 56, 63][random.below(5)]) as u64
+        }
         19 | 20 => 0,
         _ => few,
     }
@@ -169,18 +174,13 @@ fn piece(call: &Call, fed: u64, random: &mut Random) -> usize {
         0 => MESSAGE_LIMIT + random.below(2),
         1 => MESSAGE_LIMIT + 2 + random.below(MESSAGE_LIMIT),
         2 => rest + 1 + random.below(2),
-        3 if random.below(8) == 0 => rest.saturating_sub(random.below(2)),
-        4 if random.below(8) == 0 => random.below(rest + 1),
+        3 if random.below(64) == 0 => rest.saturating_sub(random.below(2)),
+        4 if random.below(64) == 0 => random.below(rest + 1),
         5..=7 if rest < 200 => rest.saturating_sub(random.below(2)),
         8..=12 => block + random.below(3) - 1,
         13 => 0,
         _ => short,
     }
-}
-
-/// Whether a call takes so long that it is to be made seldom.
-fn is_slow(call: &Call) -> bool {
-    call.name.contains("sha1")
 }
 
 /// Any call. Of the slow ones most are put back.
@@ -190,43 +190,55 @@ fn pick(random: &mut Random) -> &'static Call {
         let call = TWO_SHARE_CALLS
             .get(place)
             .unwrap_or_else(|| &CALLS[place - TWO_SHARE_CALLS.len()]);
-        if !is_slow(call) || random.below(16) == 0 {
+        if !call.is_slow() || random.below(16) == 0 {
             return call;
         }
     }
 }
 
 /// The share count that the slices are made for: mostly a right one, and of a slow call mostly 1
-/// or 2.
+/// or 2, and seldom many.
 fn fitting(call: &Call, random: &mut Random) -> usize {
-    let most = match is_slow(call) && random.below(8) > 0 {
-        true => 2,
-        false => COUNTS.len(),
+    let most = match (call.is_slow(), random.below(32)) {
+        (false, _) | (true, 0) => call.counts.len(),
+        (true, 1..=3) => 5,
+        (true, _) => 2,
     };
     match random.below(16) {
-        0 => random.below(17),
-        _ => COUNTS[random.below(most)],
+        0 if call.is_slow() => [0, SHARES_LIMIT + 1][random.below(2)],
+        0 => near_count(random),
+        _ => call.counts[random.below(most)],
     }
+}
+
+/// Any right share count, or one beside them.
+fn near_count(random: &mut Random) -> usize {
+    random.below(SHARES_LIMIT + 2)
 }
 
 /// The share count given: mostly the one that the slices are made for; or another; or one that
 /// agrees with it in the low bits, so that it passes where a number is cut or a product wraps.
-fn count(fitting: usize, random: &mut Random) -> usize {
+fn count(call: &Call, fitting: usize, random: &mut Random) -> usize {
+    let wrong = call.wrong_counts();
     match random.below(24) {
-        0 => WRONG_COUNTS[random.below(WRONG_COUNTS.len())],
+        0 => wrong[random.below(wrong.len())],
         1 => fitting + (1 << (32 + random.below(32))),
-        2 => random.below(17),
+        2 => near_count(random),
         3 => random.number(),
         _ => fitting,
     }
 }
 
-/// How many bytes a call is given. Of the keys that are hashed, which is slow, most are put back.
-fn quick_bytes(call: &Call, random: &mut Random) -> usize {
+/// How many bytes a call is given at so many shares. Of the keys that are hashed and of the long
+/// messages, which is slow, most are put back, and more of them where there are more shares.
+fn quick_bytes(call: &Call, n: usize, random: &mut Random) -> usize {
+    let slow = match call.limit {
+        Some(KEY_LIMIT) => 65..=KEY_LIMIT,
+        _ => quick_message(n) + 1..=MESSAGE_LIMIT,
+    };
     loop {
         let bytes = bytes(call, random);
-        let hashed = call.limit == Some(KEY_LIMIT) && (65..=KEY_LIMIT).contains(&bytes);
-        if !hashed || random.below(32) == 0 {
+        if !slow.contains(&bytes) || random.below(8 * n.max(1)) == 0 {
             return bytes;
         }
     }
@@ -250,6 +262,9 @@ fn bytes(call: &Call, random: &mut Random) -> usize {
 /// else about a third of them wrong.
 fn lengths(right: Lengths, random: &mut Random) -> Lengths {
     let mut lengths = right;
+    if lengths.words > MOST_WORDS {
+        lengths.words = random.below(200);
+    }
     let [first, second] = &mut lengths.inputs;
     if random.below(2) == 0 {
         lengths.words = (lengths.words + random.below(8)).saturating_sub(1);

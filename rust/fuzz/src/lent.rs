@@ -1,13 +1,11 @@
 //! Slices lent to a call, each with guard elements on both sides, and all that a call can be lent.
 
 use crate::random::Random;
+use flamivorse::CHAIN_WORDS;
 use std::fmt;
 
 /// How many guard elements stand on each side.
 const GUARD: usize = 8;
-
-/// How many words a chain has.
-const CHAIN: usize = 40;
 
 /// How many bytes the tail of a state has.
 const TAIL: usize = 64;
@@ -136,7 +134,7 @@ impl Arguments {
         let mut words = |length| Lent::inside(random.words(length + 2 * GUARD));
         let inputs = lengths.inputs.map(&mut words);
         let output = words(lengths.output);
-        let chain = words(CHAIN);
+        let chain = words(CHAIN_WORDS);
         let words = words(lengths.words);
         let mut bytes = |length| Lent::inside(random.bytes(length + 2 * GUARD));
         let (message, tag) = (bytes(lengths.bytes), bytes(lengths.tag));
@@ -149,7 +147,7 @@ impl Arguments {
             inputs,
             bytes: message,
             chain,
-            outer: Lent::zeros(CHAIN),
+            outer: Lent::zeros(CHAIN_WORDS),
             tail: Lent::zeros(TAIL),
             output,
             tag,
@@ -175,7 +173,7 @@ impl Arguments {
     }
 
     /// The chain's words.
-    pub fn chain_words(&self) -> [u32; CHAIN] {
+    pub fn chain_words(&self) -> [u32; CHAIN_WORDS] {
         self.chain.slice().try_into().expect("a chain's length")
     }
 

@@ -3,7 +3,7 @@
 
 use crate::calls::Outcome;
 use crate::lent::{Arguments, Outline};
-use flamivorse::{Drawn, Refusal};
+use flamivorse::{Drawn, Refusal, CHAIN_WORDS};
 
 /// The state of one side.
 macro_rules! state_of {
@@ -11,7 +11,7 @@ macro_rules! state_of {
         /// With something in every place that a query does not look at.
         impl From<Outline> for $side::State {
             fn from(state: Outline) -> $side::State {
-                let shares = [0xa5a5_a5a5; 40];
+                let shares = [0xa5a5_a5a5; CHAIN_WORDS];
                 $side::State {
                     n: state.n,
                     bytes: state.fed,

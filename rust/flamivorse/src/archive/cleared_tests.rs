@@ -8,6 +8,10 @@ use std::mem::MaybeUninit;
 /// How far below the caller is looked, in words.
 const WORDS: usize = 4096;
 
+/// The share counts that are tried: some of each form that the addition has, and the largest, which
+/// takes the most stack.
+const COUNTS: [usize; 6] = [1, 2, 3, 4, 8, SHARES_LIMIT];
+
 /// The words of all vector registers, of the widest kind there is.
 const WIDE: usize = 32 * 16;
 
@@ -106,7 +110,7 @@ struct Compression {
 
 impl Compression {
     fn new(n: usize) -> Compression {
-        let mut chain = Box::new(Chain { shares: [0; 40] });
+        let mut chain: Box<Chain> = Box::default();
         chain.shares[..5 * n].copy_from_slice(&fresh(5 * n, CHAIN));
         let words = crate::sha1_compress_words(n).expect("a right count");
         Compression {
@@ -120,7 +124,7 @@ impl Compression {
 
 #[test]
 fn shares_are_found_after_the_call_of_the_archive() {
-    for n in [1, 2, 4, 8] {
+    for n in COUNTS {
         let mut call = Compression::new(n);
         let (block, words) = (&call.block, &call.words);
         let chain = Chain::clone(&call.chain);
@@ -143,7 +147,7 @@ fn shares_are_found_after_the_call_of_the_archive() {
 
 #[test]
 fn no_shares_are_found_after_a_safe_call() {
-    for n in [1, 2, 4, 8] {
+    for n in COUNTS {
         let mut call = Compression::new(n);
         let done = crate::sha1_compress(n, &mut call.chain, &call.block, &call.words);
         call.found.look();
@@ -191,7 +195,7 @@ impl Splitting {
 
 #[test]
 fn shares_are_found_after_the_archive_has_split_a_long_key() {
-    for n in [1, 2, 4, 8] {
+    for n in COUNTS {
         let mut call = Splitting::new(n);
         let (key, shares, words) = (&call.key, &mut call.shares, &call.words);
         // SAFETY: all are slices of Rust's, and none overlaps another.
@@ -214,7 +218,7 @@ fn shares_are_found_after_the_archive_has_split_a_long_key() {
 
 #[test]
 fn no_shares_are_found_after_a_long_key_is_split() {
-    for n in [1, 2, 4, 8] {
+    for n in COUNTS {
         let mut call = Splitting::new(n);
         let done = crate::split_key(n, &call.key, &mut call.shares, &call.words);
         call.found.look();
@@ -249,7 +253,7 @@ impl Streaming {
 
 #[test]
 fn chains_are_found_after_a_feed_of_the_archive() {
-    for n in [1, 2, 4, 8] {
+    for n in COUNTS {
         let mut call = Streaming::new(n);
         let (given, words) = (State::clone(&call.state), &call.words);
         // SAFETY: both are slices of Rust's, and the state goes by value.
@@ -264,7 +268,7 @@ fn chains_are_found_after_a_feed_of_the_archive() {
 
 #[test]
 fn no_chains_are_found_after_a_safe_call_on_a_state() {
-    for n in [1, 2, 4, 8] {
+    for n in COUNTS {
         let mut call = Streaming::new(n);
         let fed = crate::hmac_sha1_feed(&mut call.state, &[0], &call.words);
         call.found.look();
@@ -281,7 +285,7 @@ fn no_chains_are_found_after_a_safe_call_on_a_state() {
 
 #[test]
 fn no_chains_are_found_after_a_start() {
-    for n in [1, 2, 4, 8] {
+    for n in COUNTS {
         let mut call = Streaming::new(n);
         let started =
             crate::hmac_sha1_start(n, &fresh(16 * n, BLOCK), &mut call.state, &call.words);
@@ -297,8 +301,12 @@ fn a_dropped_state_is_cleared() {
         n: 2,
         bytes: 63,
         finished: 0,
-        inner: Chain { shares: [7; 40] },
-        outer: Chain { shares: [8; 40] },
+        inner: Chain {
+            shares: [7; CHAIN_WORDS],
+        },
+        outer: Chain {
+            shares: [8; CHAIN_WORDS],
+        },
         tail: [9; 64],
     });
     // SAFETY: the state is dropped once, and its fields are plain numbers, which stay readable.
@@ -307,5 +315,6 @@ fn a_dropped_state_is_cleared() {
         let left = place.as_ptr();
         ((*left).inner.shares, (*left).outer.shares, (*left).tail)
     };
-    assert_eq!((inner, outer, tail), ([0; 40], [0; 40], [0; 64]));
+    assert_eq!((inner, outer), ([0; CHAIN_WORDS], [0; CHAIN_WORDS]));
+    assert_eq!(tail, [0; 64]);
 }

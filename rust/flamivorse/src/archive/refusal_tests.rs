@@ -2,6 +2,11 @@
 //! words drawn, the opened word 0, and the state as it was given, of a start zeros.
 
 use super::*;
+use crate::{B2A_SHORT_COUNTS, MESSAGE_LIMIT};
+
+/// A share count, and a number of bytes of a message, that is one too many.
+const OVER_SHARES: usize = SHARES_LIMIT + 1;
+const OVER_BYTES: usize = MESSAGE_LIMIT + 1;
 
 /// Many words, to lend the first few of.
 fn many() -> [u32; 64] {
@@ -10,8 +15,12 @@ fn many() -> [u32; 64] {
 
 /// One refused call for each number that applies: the share count, the lengths of input and output
 /// for each share, and the number.
-const REFUSED: [(usize, usize, usize, u32); 4] =
-    [(3, 1, 1, 1), (2, 2, 1, 2), (2, 1, 2, 3), (2, 1, 1, 5)];
+const REFUSED: [(usize, usize, usize, u32); 4] = [
+    (OVER_SHARES, 1, 1, 1),
+    (2, 2, 1, 2),
+    (2, 1, 2, 3),
+    (2, 1, 1, 5),
+];
 
 /// A refusal by this number that drew nothing.
 fn refused(answer: Answer, number: u32) {
@@ -45,9 +54,28 @@ fn on_shares() {
     }
 }
 
+/// The short conversion refuses counts that all other calls take.
+#[test]
+fn by_the_short_conversion() {
+    for n in (1..=SHARES_LIMIT).filter(|n| !B2A_SHORT_COUNTS.contains(n)) {
+        let (x, z, words) = (&many()[..n], &mut many()[..n], &many());
+        refused(
+            call!(flamivorse_b2a_short(n), reads [x], writes z, draws words),
+            1,
+        );
+        refused(query!(flamivorse_b2a_short_words(n)), 1);
+    }
+}
+
 #[test]
 fn openings() {
-    for (n, length, number) in [(3, 3, 1), (0, 0, 1), (2, 3, 2), (8, 0, 2)] {
+    for (n, length, number) in [
+        (OVER_SHARES, OVER_SHARES, 1),
+        (0, 0, 1),
+        (2, 3, 2),
+        (3, 2, 2),
+        (SHARES_LIMIT, 0, 2),
+    ] {
         let shares = &many()[..length];
         for open in [flamivorse_open_xor, flamivorse_open_sum] {
             // SAFETY: the shares are a slice of Rust's, and nothing is written.
@@ -59,9 +87,9 @@ fn openings() {
 
 #[test]
 fn on_keys_and_messages() {
-    let (none, key, bytes): (&[u32], &[u32], &[u8]) = (&[], &many()[..32], &[0; 4097]);
+    let (none, key, bytes): (&[u32], &[u32], &[u8]) = (&[], &many()[..32], &[0; OVER_BYTES]);
     for (n, places, length, number) in [
-        (3, 32, 64, 1),
+        (OVER_SHARES, 32, 64, 1),
         (2, 31, 1025, 3),
         (2, 32, 1025, 4),
         (2, 32, 64, 5),
@@ -75,10 +103,10 @@ fn on_keys_and_messages() {
         );
     }
     for (n, size, length, number) in [
-        (3, 20, 4096, 1),
-        (4, 19, 4097, 2),
-        (2, 19, 4097, 3),
-        (2, 20, 4097, 4),
+        (OVER_SHARES, 20, MESSAGE_LIMIT, 1),
+        (4, 19, OVER_BYTES, 2),
+        (2, 19, OVER_BYTES, 3),
+        (2, 20, OVER_BYTES, 4),
         (2, 20, 0, 5),
     ] {
         let (message, tag) = (&bytes[..length], &mut [0; 32][..size]);
@@ -87,15 +115,19 @@ fn on_keys_and_messages() {
             number,
         );
     }
-    for (n, number) in [(3, 1), (4, 2), (2, 5)] {
-        let chain = Chain { shares: [7; 40] };
+    for (n, number) in [(OVER_SHARES, 1), (4, 2), (2, 5)] {
         // SAFETY: both are slices of Rust's, and nothing is written.
         let answer =
-            unsafe { flamivorse_sha1_compress(n, chain, key.as_ptr(), 32, none.as_ptr(), 0) };
-        assert_eq!(
-            (answer.number, answer.drawn, answer.chain.shares),
-            (number, 0, [7; 40])
-        );
+            unsafe { flamivorse_sha1_compress(n, chain_of(7), key.as_ptr(), 32, none.as_ptr(), 0) };
+        assert_eq!((answer.number, answer.drawn), (number, 0));
+        assert_eq!(answer.chain.shares, [7; CHAIN_WORDS]);
+    }
+}
+
+/// A chain with this word in every place.
+fn chain_of(word: u32) -> Chain {
+    Chain {
+        shares: [word; CHAIN_WORDS],
     }
 }
 
@@ -105,19 +137,19 @@ fn full(n: usize, bytes: u64, finished: u32) -> State {
         n,
         bytes,
         finished,
-        inner: Chain { shares: [7; 40] },
-        outer: Chain { shares: [8; 40] },
+        inner: chain_of(7),
+        outer: chain_of(8),
         tail: [9; 64],
     }
 }
 
 /// All fields of a state.
-type Fields = (usize, u64, u32, [u32; 40], [u32; 40], [u8; 64]);
+type Fields = (usize, u64, u32, [[u32; CHAIN_WORDS]; 2], [u8; 64]);
 
 fn fields(state: &State) -> Fields {
-    let (inner, outer) = (state.inner.shares, state.outer.shares);
+    let chains = [state.inner.shares, state.outer.shares];
     let (n, bytes, finished) = (state.n, state.bytes, state.finished);
-    (n, bytes, finished, inner, outer, state.tail)
+    (n, bytes, finished, chains, state.tail)
 }
 
 /// A refusal by this number that drew nothing and hands this state back.
@@ -129,7 +161,7 @@ fn refused_with(answer: Streamed, number: u32, state: &State) {
 #[test]
 fn starts() {
     let none: &[u32] = &[];
-    for (n, places, number) in [(3, 47, 1), (2, 31, 2), (2, 33, 2), (2, 32, 5)] {
+    for (n, places, number) in [(OVER_SHARES, 47, 1), (2, 31, 2), (2, 33, 2), (2, 32, 5)] {
         let key = &many()[..places];
         // SAFETY: both are slices of Rust's, and nothing is written.
         let answer =
@@ -141,22 +173,27 @@ fn starts() {
 /// States that are unfit, by their share count, byte count and mark.
 const UNFIT: [(usize, u64, u32); 8] = [
     (0, 0, 0),
-    (3, 0, 0),
+    (OVER_SHARES, 0, 0),
     (usize::MAX, 0, 0),
-    (2, 4097, 0),
+    (2, OVER_BYTES as u64, 0),
     (2, u64::MAX, 0),
     (2, 0, 1),
     (2, 0, u32::MAX),
-    (3, 4097, 1),
+    (OVER_SHARES, OVER_BYTES as u64, 1),
 ];
 
 #[test]
 fn feeds() {
-    let unfit = UNFIT.map(|(n, bytes, finished)| (full(n, bytes, finished), 4097, 6));
-    let others = [(0, 4097, 4), (1, 4096, 4), (4096, 1, 4), (0, 64, 5)];
-    let others = others.map(|(bytes, length, number)| (full(2, bytes, 0), length, number));
+    let unfit = UNFIT.map(|(n, bytes, finished)| (full(n, bytes, finished), OVER_BYTES, 6));
+    let others = [
+        (0, OVER_BYTES, 4),
+        (1, MESSAGE_LIMIT, 4),
+        (MESSAGE_LIMIT, 1, 4),
+        (0, 64, 5),
+    ];
+    let others = others.map(|(bytes, length, number)| (full(2, bytes as u64, 0), length, number));
     for (state, length, number) in unfit.into_iter().chain(others) {
-        let (piece, none) = ([0; 4097], [0u32; 0]);
+        let (piece, none) = ([0; OVER_BYTES], [0u32; 0]);
         // SAFETY: both are slices of Rust's, and nothing is written.
         let answer = unsafe {
             flamivorse_hmac_sha1_feed(state.clone(), piece.as_ptr(), length, none.as_ptr(), 0)
@@ -169,7 +206,7 @@ fn feeds() {
 fn finishes() {
     let unfit = UNFIT.map(|(n, bytes, finished)| (full(n, bytes, finished), 19, 6));
     let others = [(19, 3), (21, 3), (0, 3), (20, 5)];
-    let others = others.map(|(size, number)| (full(2, 4096, 0), size, number));
+    let others = others.map(|(size, number)| (full(2, MESSAGE_LIMIT as u64, 0), size, number));
     for (state, size, number) in unfit.into_iter().chain(others) {
         let (mut tag, none) = ([5; 21], [0u32; 0]);
         // SAFETY: both are slices of Rust's that do not overlap.
@@ -186,23 +223,26 @@ fn queries_on_states() {
     for (n, bytes, finished) in UNFIT {
         let state = full(n, bytes, finished);
         refused(query!(flamivorse_hmac_sha1_finish_words(state.clone())), 6);
-        refused(query!(flamivorse_hmac_sha1_feed_words(state, 4097)), 6);
+        refused(
+            query!(flamivorse_hmac_sha1_feed_words(state, OVER_BYTES)),
+            6,
+        );
     }
     for (bytes, length) in [
-        (0, 4097),
-        (1, 4096),
-        (4096, 1),
+        (0, OVER_BYTES),
+        (1, MESSAGE_LIMIT),
+        (MESSAGE_LIMIT, 1),
         (1, usize::MAX),
-        (4096, usize::MAX),
+        (MESSAGE_LIMIT, usize::MAX),
     ] {
-        let state = full(2, bytes, 0);
+        let state = full(2, bytes as u64, 0);
         refused(query!(flamivorse_hmac_sha1_feed_words(state, length)), 4);
     }
 }
 
 #[test]
 fn queries() {
-    for n in [0, 3, 1 << 31, usize::MAX] {
+    for n in [0, OVER_SHARES, 1 << 31, usize::MAX] {
         refused(query!(flamivorse_hmac_sha1_start_words(n)), 1);
         refused(query!(flamivorse_split_words(n)), 1);
         refused(query!(flamivorse_refresh_words(n)), 1);
@@ -214,8 +254,8 @@ fn queries() {
         refused(query!(flamivorse_b2a_short_words(n)), 1);
         refused(query!(flamivorse_sha1_compress_words(n)), 1);
         refused(query!(flamivorse_split_key_words(n, 1025)), 1);
-        refused(query!(flamivorse_hmac_sha1_words(n, 4097)), 1);
+        refused(query!(flamivorse_hmac_sha1_words(n, OVER_BYTES)), 1);
     }
     refused(query!(flamivorse_split_key_words(8, 1025)), 4);
-    refused(query!(flamivorse_hmac_sha1_words(8, 4097)), 4);
+    refused(query!(flamivorse_hmac_sha1_words(8, OVER_BYTES)), 4);
 }

@@ -2,29 +2,34 @@
 //! counts, and every slice that was lent.
 
 use crate::report;
-use flamivorse::KEY_LIMIT;
-use fuzz::calls::{refused, Call, Target, CALLS, COUNTS, WRONG_COUNTS};
+use flamivorse::{KEY_LIMIT, SHARES_LIMIT};
+use fuzz::calls::{quick_message, refused, Call, Target, CALLS, SOME_COUNTS};
 use fuzz::lent::Arguments;
 use fuzz::random::Random;
 
-/// How many random cases a call has at each of the share counts.
-fn repeats(call: &Call) -> [usize; 4] {
-    match call.name {
-        "hmac_sha1" => [60, 40, 20, 8],
-        "sha1_compress" => [60, 40, 30, 20],
-        _ => [200; 4],
+/// The share counts that a call is tried at: all that it takes; some where it is slow.
+pub fn counts(call: &Call) -> &'static [usize] {
+    match call.is_slow() {
+        true => &SOME_COUNTS,
+        false => call.counts,
     }
 }
 
-/// A length that the call takes: mostly short, now and then any, the limit among them. One key in
+/// How many random cases a call has at a share count: fewer where they draw more words.
+fn repeats(call: &Call, n: usize) -> usize {
+    let words = call.lengths(n, 0).words;
+    (2_000_000 / words.max(1)).clamp(1, 60)
+}
+
+/// A length that the call takes: mostly short, now and then any. At up to eight shares one key in
 /// eight is hashed, which is slow.
-fn length(call: &Call, random: &mut Random) -> usize {
+fn length(call: &Call, n: usize, random: &mut Random) -> usize {
     match call.limit {
         None => 0,
-        Some(KEY_LIMIT) if random.below(2) == 0 => random.below(65),
+        Some(KEY_LIMIT) if n > 8 || random.below(2) == 0 => random.below(65),
         Some(KEY_LIMIT) => random.key_length(),
-        Some(limit) if random.below(12) == 0 => random.below(limit + 1),
-        Some(limit) => random.below(limit.min(200) + 1),
+        Some(_) if random.below(12) == 0 => random.below(quick_message(n) + 1),
+        Some(_) => random.below(quick_message(n).min(200) + 1),
     }
 }
 
@@ -62,9 +67,9 @@ fn calls() {
     for (seed, call) in CALLS.iter().enumerate() {
         let mut random = Random::new(seed as u64);
         let mut cases = 0;
-        for (n, repeats) in COUNTS.into_iter().zip(repeats(call)) {
-            for _ in 0..repeats {
-                let lengths = call.lengths(n, length(call, &mut random));
+        for &n in counts(call) {
+            for _ in 0..repeats(call, n) {
+                let lengths = call.lengths(n, length(call, n, &mut random));
                 let exact = Arguments::random(n, lengths, &mut random);
                 cases += compare_supplies(call, exact, &mut random);
             }
@@ -80,7 +85,7 @@ fn queries() {
         let lengths = call.limit.map_or(vec![0], |limit| {
             (0..=limit + 1).chain([1 << 31, usize::MAX]).collect()
         });
-        for n in COUNTS.into_iter().chain(WRONG_COUNTS) {
+        for n in (0..=SHARES_LIMIT).chain(call.wrong_counts()) {
             for &bytes in &lengths {
                 call.compare_query(Target::Rust, n, bytes);
             }

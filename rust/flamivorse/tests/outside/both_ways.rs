@@ -2,8 +2,8 @@
 //! either add up to what the input opens to. The shares themselves are compared with `second`.
 
 use crate::report;
-use flamivorse::{open_sum, open_xor};
-use fuzz::calls::{named, Target, COUNTS};
+use flamivorse::{open_sum, open_xor, B2A_SHORT_COUNTS};
+use fuzz::calls::{named, Target};
 use fuzz::lent::Arguments;
 use fuzz::random::Random;
 
@@ -14,7 +14,7 @@ const REPEATS: usize = 200;
 fn open_to_the_same_secret() {
     let ways = ["b2a", "b2a_short"].map(named);
     let mut random = Random::new(800);
-    for n in COUNTS {
+    for n in B2A_SHORT_COUNTS {
         for repeat in 0..REPEATS {
             let lent = ways.map(|call| Arguments::random(n, call.lengths(n, 0), &mut random));
             let [mut long, mut short] = lent;
@@ -31,5 +31,8 @@ fn open_to_the_same_secret() {
             }
         }
     }
-    report(2 * 4 * REPEATS, "conversions opened, by both ways");
+    report(
+        2 * B2A_SHORT_COUNTS.len() * REPEATS,
+        "conversions opened, by both ways",
+    );
 }

@@ -4,8 +4,8 @@
 
 use crate::against_second::compare_supplies;
 use crate::{report, streams};
-use flamivorse::{open_xor, split_key_words, Drawn, Key, KEY_LIMIT};
-use fuzz::calls::{named, refused, Target, COUNTS};
+use flamivorse::{open_xor, split_key_words, Drawn, Key, KEY_LIMIT, SHARES_LIMIT};
+use fuzz::calls::{named, refused, Target, COUNTS, SOME_COUNTS};
 use fuzz::lent::{Arguments, Lengths};
 use fuzz::random::Random;
 use sha1::{Digest, Sha1};
@@ -14,10 +14,12 @@ use sha1::{Digest, Sha1};
 /// blocks, of two blocks and of the limit, each with what is beside it; and the shortest.
 const LENGTHS: [usize; 14] = [0, 1, 63, 64, 65, 66, 67, 68, 119, 120, 127, 128, 1023, 1024];
 
-/// Every share count with every such length.
+/// Some share counts with every such length; at the largest the longest keys are left out, which draw
+/// 85 MB of words.
 fn counts_and_lengths() -> impl Iterator<Item = (usize, usize)> {
     let lengths = |n| LENGTHS.map(|length| (n, length));
-    COUNTS.into_iter().flat_map(lengths)
+    let all = SOME_COUNTS.into_iter().flat_map(lengths);
+    all.filter(|&(n, length)| n < SHARES_LIMIT || length < 1000)
 }
 
 #[test]
@@ -33,23 +35,24 @@ fn shares_and_counts_against_second() {
     report(cases, "keys of every kind of length against second");
 }
 
-/// How many words a key of so many bytes draws at each share count.
-const DRAWN: [(usize, [usize; 4]); 6] = [
-    (0, [0, 16, 48, 112]),
-    (64, [0, 16, 48, 112]),
-    (65, [0, 20_897, 125_331, 584_759]),
-    (119, [0, 20_910, 125_370, 584_850]),
-    (120, [0, 31_350, 188_010, 877_170]),
-    (1024, [0, 177_736, 1_065_648, 4_971_232]),
+/// How many words a key of so many bytes draws at each of these share counts.
+#[rustfmt::skip]
+const DRAWN: [(usize, [usize; SOME_COUNTS.len()]); 6] = [
+    (0, [0, 16, 32, 48, 64, 112, 240]),
+    (64, [0, 16, 32, 48, 64, 112, 240]),
+    (65, [0, 20_897, 62_674, 125_331, 208_868, 584_759, 2_505_855]),
+    (119, [0, 20_910, 62_700, 125_370, 208_920, 584_850, 2_506_050]),
+    (120, [0, 31_350, 94_020, 188_010, 313_320, 877_170, 3_758_850]),
+    (1024, [0, 177_736, 532_952, 1_065_648, 1_775_824, 4_971_232, 21_301_440]),
 ];
 
 #[test]
 fn counts() {
     for (length, drawn) in DRAWN {
-        let asked = COUNTS.map(|n| split_key_words(n, length).map(Drawn::words));
+        let asked = SOME_COUNTS.map(|n| split_key_words(n, length).map(Drawn::words));
         assert_eq!(asked, drawn.map(Ok));
     }
-    report(4 * DRAWN.len(), "words that keys draw");
+    report(SOME_COUNTS.len() * DRAWN.len(), "words that keys draw");
 }
 
 /// HMAC's key block: the key, or of one that is over a block its digest, and zero bytes after it.
@@ -75,7 +78,7 @@ fn key_blocks_opened() {
             assert!(split.shares()[5 * n..].iter().all(|&share| share == 0));
         }
     }
-    report(COUNTS.len() * LENGTHS.len(), "key blocks opened");
+    report(counts_and_lengths().count(), "key blocks opened");
 }
 
 #[test]
@@ -95,7 +98,7 @@ fn a_byte_over_the_limit() {
     for n in COUNTS {
         let lengths = Lengths {
             bytes: KEY_LIMIT + 1,
-            ..split_key.lengths(n, KEY_LIMIT)
+            ..split_key.lengths(n, 0)
         };
         let given = Arguments::random(n, lengths, &mut random);
         for target in [Target::Rust, Target::C] {
@@ -104,5 +107,5 @@ fn a_byte_over_the_limit() {
             assert!(after == given);
         }
     }
-    report(4 * 2, "keys a byte over the limit");
+    report(COUNTS.len() * 2, "keys a byte over the limit");
 }

@@ -8,6 +8,7 @@
 mod against_second;
 mod both_ways;
 mod keys;
+mod openings;
 mod reference;
 mod refusals;
 mod streams;

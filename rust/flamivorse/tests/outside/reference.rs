@@ -4,9 +4,12 @@
 
 use crate::report;
 use flamivorse::{
-    a2b, a2b_words, add, and, b2a_2_record, b2a_short, b2a_short_words, b2a_words, expand,
-    hmac_sha1_words, refresh, refresh_words, split_key, Drawn, Refusal,
+    a2b, a2b_words, add, add_words, and, and_words, b2a_2_record, b2a_short, b2a_short_words,
+    b2a_words, expand, expand_words, hmac_sha1_start_words, hmac_sha1_words, refresh,
+    refresh_words, sha1_compress_words, split_key, split_words, Drawn, Refusal, B2A_SHORT_COUNTS,
+    MESSAGE_LIMIT, SHARES_LIMIT,
 };
+use fuzz::calls::COUNTS;
 
 #[test]
 fn shares() {
@@ -71,16 +74,69 @@ fn shares_by_given_words() {
     report(4, "values for given words");
 }
 
+/// What a query tells at each share count.
+type Counts = [usize; SHARES_LIMIT];
+
+/// The words that the conversions draw.
+#[rustfmt::skip]
+const A2B: Counts = [
+    0, 34, 134, 264, 496, 758, 1_082, 1_432, 1_928, 2_450, 3_034, 3_650, 4_360, 5_102, 5_902, 6_720,
+];
+#[rustfmt::skip]
+const B2A: Counts = [
+    0, 68, 235, 465, 830, 1_258, 1_781, 2_363, 3_124, 3_944, 4_859, 5_839, 6_946, 8_118, 9_381, 10_695,
+];
+
 #[test]
 fn counts() {
-    let counted = |query: fn(usize) -> Result<Drawn, Refusal>| {
-        [1, 2, 4, 8].map(|n| query(n).map(Drawn::words))
-    };
-    assert_eq!(counted(refresh_words), [0, 1, 6, 28].map(Ok));
-    assert_eq!(counted(a2b_words), [0, 34, 264, 1_432].map(Ok));
-    assert_eq!(counted(b2a_words), [0, 68, 465, 2_363].map(Ok));
-    assert_eq!(counted(b2a_short_words), [0, 4, 40, 868].map(Ok));
+    type Query = fn(usize) -> Result<Drawn, Refusal>;
+    let pairs: Counts = COUNTS.map(|n| n * (n - 1) / 2);
+    let expected: [(Query, Counts); 9] = [
+        (split_words, COUNTS.map(|n| n - 1)),
+        (refresh_words, pairs),
+        (expand_words, COUNTS),
+        (and_words, pairs),
+        (add_words, pairs.map(|pairs| 32 * pairs)),
+        (a2b_words, A2B),
+        (b2a_words, B2A),
+        (sha1_compress_words, pairs.map(|pairs| 10_440 * pairs)),
+        (hmac_sha1_start_words, pairs.map(|pairs| 20_880 * pairs)),
+    ];
+    for (query, counts) in expected {
+        let told = COUNTS.map(|n| query(n).map(Drawn::words));
+        assert_eq!(told, counts.map(Ok));
+        assert_eq!(
+            [0, SHARES_LIMIT + 1].map(query),
+            [Err(Refusal::ShareCount); 2]
+        );
+    }
+    report(
+        expected.len() * (COUNTS.len() + 2),
+        "reference values of counts",
+    );
+}
+
+/// The short conversion keeps its four share counts.
+#[test]
+fn counts_of_the_short_conversion() {
+    let short = B2A_SHORT_COUNTS.map(|n| b2a_short_words(n).map(Drawn::words));
+    assert_eq!(short, [0, 4, 40, 868].map(Ok));
+    let others = COUNTS.into_iter().filter(|n| !B2A_SHORT_COUNTS.contains(n));
+    for n in others {
+        let (x, words, mut a) = (vec![1; n], vec![2; 868], vec![3; n]);
+        assert_eq!(b2a_short_words(n), Err(Refusal::ShareCount));
+        assert_eq!(b2a_short(n, &x, &mut a, &words), Err(Refusal::ShareCount));
+        assert_eq!(a, vec![3; n]);
+    }
+    report(COUNTS.len(), "share counts of the short conversion");
+}
+
+/// At two shares around the end of a block's padding, and at each count what the longest draws.
+#[test]
+fn counts_of_tags() {
     let tags = [55, 56].map(|length| hmac_sha1_words(2, length).map(Drawn::words));
     assert_eq!(tags, [41_760, 52_200].map(Ok));
-    report(18, "reference values of counts");
+    let longest = COUNTS.map(|n| hmac_sha1_words(n, MESSAGE_LIMIT).map(Drawn::words));
+    assert_eq!(longest, COUNTS.map(|n| Ok(1_028 * 5_220 * n * (n - 1))));
+    report(2 + COUNTS.len(), "reference values of tags' counts");
 }

@@ -2,9 +2,10 @@
 //! compared with `second` and with what the rules say: the least number, no words drawn, and every
 //! slice and its guards as they came.
 
+use crate::against_second::counts;
 use crate::report;
-use flamivorse::KEY_LIMIT;
-use fuzz::calls::{refused, Call, Target, CALLS, COUNTS, WRONG_COUNTS};
+use flamivorse::{KEY_LIMIT, SHARES_LIMIT};
+use fuzz::calls::{refused, Call, Target, CALLS};
 use fuzz::lent::Arguments;
 use fuzz::random::Random;
 
@@ -67,7 +68,7 @@ fn faults(call: &Call, n: usize, arguments: &Arguments) -> Vec<Fault> {
         .limit
         .map_or(vec![], |limit| vec![limit + 1, 2 * limit]);
     let wrong = [
-        (Place::ShareCount, WRONG_COUNTS.to_vec()),
+        (Place::ShareCount, call.wrong_counts()),
         (Place::Input(0), wrong_lengths(call.inputs[0] * n)),
         (Place::Input(1), wrong_lengths(call.inputs[1] * n)),
         (Place::Output, wrong_lengths(call.output * n)),
@@ -110,11 +111,12 @@ fn compare_all(call: &Call, arguments: &Arguments, faults: &[Fault]) -> usize {
     cases
 }
 
-/// How many bytes a call is given: of a key few, which are padded, and more, which are hashed.
-fn byte_counts(call: &Call) -> &'static [usize] {
+/// How many bytes a call is given: of a key few, which are padded, and at some share counts more,
+/// which are hashed.
+fn byte_counts(call: &Call, n: usize) -> &'static [usize] {
     match call.limit {
         None => &[0],
-        Some(KEY_LIMIT) => &[20, 100],
+        Some(KEY_LIMIT) if n <= 4 => &[20, 100],
         Some(_) => &[20],
     }
 }
@@ -124,8 +126,8 @@ fn every_fault_and_every_two_faults() {
     for (seed, call) in CALLS.iter().enumerate() {
         let mut random = Random::new(200 + seed as u64);
         let mut cases = 0;
-        for n in COUNTS {
-            for &bytes in byte_counts(call) {
+        for &n in counts(call) {
+            for &bytes in byte_counts(call, n) {
                 let arguments = Arguments::random(n, call.lengths(n, bytes), &mut random);
                 cases += compare_all(call, &arguments, &faults(call, n, &arguments));
             }
@@ -141,7 +143,8 @@ fn wrong_share_counts_with_fitting_slices() {
     let mut random = Random::new(300);
     let mut cases = 0;
     for call in &CALLS {
-        for value in WRONG_COUNTS.into_iter().filter(|&n| n < 10) {
+        let counts = call.wrong_counts().into_iter();
+        for value in counts.filter(|&n| n <= 2 * SHARES_LIMIT) {
             for words in [0, 10_000] {
                 let mut lengths = call.lengths(value, call.limit.map_or(0, |_| 20));
                 lengths.words = words;

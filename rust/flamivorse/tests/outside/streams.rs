@@ -6,20 +6,20 @@ use crate::report;
 use crate::tags::{outside_tag, rfc2202, tag};
 use flamivorse::{
     hmac_sha1_feed, hmac_sha1_finish, hmac_sha1_words, sha1_compress_words, split_key_words, Drawn,
-    Failure, Key, Refusal, Source, State, Stream, Supply, MESSAGE_LIMIT, TAG_BYTES,
+    Failure, Key, Refusal, Source, State, Stream, Supply, CHAIN_WORDS, MESSAGE_LIMIT, TAG_BYTES,
 };
-use fuzz::calls::COUNTS;
+use fuzz::calls::{quick_message, SOME_COUNTS};
 use fuzz::random::Random;
 use std::cell::Cell;
 use std::io::{self, Write};
 
 /// All fields of a state.
-type Fields = (usize, u64, u32, [u32; 40], [u32; 40], [u8; 64]);
+type Fields = (usize, u64, u32, [[u32; CHAIN_WORDS]; 2], [u8; 64]);
 
 fn fields(state: &State) -> Fields {
-    let (inner, outer) = (state.inner.shares, state.outer.shares);
+    let chains = [state.inner.shares, state.outer.shares];
     let (n, bytes, finished) = (state.n, state.bytes, state.finished);
-    (n, bytes, finished, inner, outer, state.tail)
+    (n, bytes, finished, chains, state.tail)
 }
 
 /// Seeded words for the calls of one message, and how many were drawn.
@@ -124,25 +124,30 @@ fn random_pieces(length: usize, random: &mut Random) -> Vec<usize> {
     lengths
 }
 
+/// Every cut; some at more than eight shares, where each draws millions of words.
 #[test]
 fn every_cut_of_rfc_2202() {
     let mut cases = 0;
-    for n in COUNTS {
+    for n in SOME_COUNTS {
         for (key, message, _) in rfc2202() {
-            cases += compare(n, &key, &message, &every_cut(message.len()));
+            let mut cuts = every_cut(message.len());
+            if n > 8 {
+                cuts = cuts.into_iter().step_by(25).collect();
+            }
+            cases += compare(n, &key, &message, &cuts);
         }
     }
     report(cases, "cuts of the messages of RFC 2202");
 }
 
-/// At each share count lengths around the edges of blocks and at random, to the limit.
+/// At each share count lengths around the edges of blocks and at random.
 #[test]
 fn cuts_of_random_messages() {
     let mut random = Random::new(503);
     let mut cases = 0;
-    for (n, messages) in COUNTS.into_iter().zip([40, 30, 8, 2]) {
-        let any = (0..messages).map(|_| random.below(MESSAGE_LIMIT + 1));
-        let lengths: Vec<usize> = [0, 55, 56, 63, 64, 65, 120, MESSAGE_LIMIT]
+    for (n, messages) in SOME_COUNTS.into_iter().zip([40, 30, 8, 8, 4, 2, 0]) {
+        let any = (0..messages).map(|_| random.below(quick_message(n) + 1));
+        let lengths: Vec<usize> = [0, 55, 56, 63, 64, 65, 120]
             .into_iter()
             .chain(any)
             .collect();
@@ -164,7 +169,7 @@ fn cuts_of_random_messages() {
 #[test]
 fn unused_places() {
     let mut random = Random::new(504);
-    for n in COUNTS {
+    for n in SOME_COUNTS {
         let mut words = Words::new(505);
         let mut stream = words.start(&split(n, b"key"));
         words.feed(&mut stream, &random.bytes(100));
@@ -190,7 +195,10 @@ fn unused_places() {
         junk.finished = 0;
         assert!(fields(&junk) == before);
     }
-    report(4 * 2, "states with something in their unused places");
+    report(
+        SOME_COUNTS.len() * 2,
+        "states with something in their unused places",
+    );
 }
 
 /// After a finish every call is refused, and the state stays. A copy from before can be finished
@@ -198,7 +206,7 @@ fn unused_places() {
 #[test]
 fn after_a_finish() {
     let message = [7; 70];
-    for n in COUNTS {
+    for n in SOME_COUNTS {
         let mut words = Words::new(506);
         let mut stream = words.start(&split(n, b"key"));
         words.feed(&mut stream, &message);
@@ -221,24 +229,30 @@ fn after_a_finish() {
         let further = words.finish(&mut before);
         assert_eq!(further, outside_tag(b"key", &[7; 140]));
     }
-    report(4 * 9, "calls after a finish");
+    report(SOME_COUNTS.len() * 9, "calls after a finish");
 }
 
-/// The limit counts all pieces. What would pass it is refused whole, and what fits is taken after it.
+/// The share counts at which the longest message is streamed. At more it takes seconds.
+const LONG_COUNTS: [usize; 4] = [1, 2, 3, 4];
+
+/// The limit counts all pieces, each of which is lent its own words. What would pass it is refused
+/// whole, and what fits is taken after it.
 #[test]
 fn limit_of_all_pieces() {
     let message = Random::new(507).bytes(MESSAGE_LIMIT);
-    let (most, rest) = message.split_at(4000);
-    for n in COUNTS {
+    let (most, rest) = message.split_at(MESSAGE_LIMIT - 96);
+    for n in LONG_COUNTS {
         let mut words = Words::new(508);
         let mut stream = words.start(&split(n, b"key"));
         let long = stream.feed(&[0; MESSAGE_LIMIT + 1], &[]);
         assert_eq!(long, Err(Refusal::TooLong));
-        words.feed(&mut stream, most);
+        for piece in most.chunks(1000) {
+            words.feed(&mut stream, piece);
+        }
         for length in [rest.len() + 1, MESSAGE_LIMIT, usize::MAX] {
             assert_eq!(stream.feed_words(length), Err(Refusal::TooLong));
         }
-        let long = stream.feed(&[0; 97], &[]);
+        let long = stream.feed(&vec![0; rest.len() + 1], &[]);
         assert_eq!(long, Err(Refusal::TooLong));
         words.feed(&mut stream, rest);
         assert_eq!(stream.feed(&[0], &[]), Err(Refusal::TooLong));
@@ -246,7 +260,7 @@ fn limit_of_all_pieces() {
         let tag = words.finish(&mut stream);
         assert_eq!(tag, outside_tag(b"key", &message));
     }
-    report(4 * 8, "pieces at the limit");
+    report(LONG_COUNTS.len() * 8, "pieces at the limit");
 }
 
 /// A supply of seeded words that ends after so many of them, and tells how many were asked for at
@@ -280,7 +294,7 @@ const PIECES: [(usize, usize); 7] = [(0, 0), (0, 63), (0, 64), (1, 63), (1, 200)
 #[test]
 fn fed_by_blocks() {
     let message = Random::new(511).bytes(300);
-    for n in COUNTS {
+    for n in SOME_COUNTS {
         for (first, length) in PIECES {
             let (before, piece) = (&message[..first], &message[first..first + length]);
             let (mut stream, most) = (begun(n, before), Cell::new(0));
@@ -299,7 +313,7 @@ fn fed_by_blocks() {
             assert!(fields(stream.state()) == fields(whole.state()));
         }
     }
-    report(4 * PIECES.len(), "pieces fed by blocks");
+    report(SOME_COUNTS.len() * PIECES.len(), "pieces fed by blocks");
 }
 
 /// What is copied to a stream is fed. A refusal and a failed source are errors of their own kind, no
@@ -307,8 +321,12 @@ fn fed_by_blocks() {
 #[test]
 fn written() {
     let mut cases = 0;
-    for n in COUNTS {
-        for length in [0, 1, 64, 200, MESSAGE_LIMIT] {
+    for n in SOME_COUNTS {
+        let longest = match LONG_COUNTS.contains(&n) {
+            true => MESSAGE_LIMIT,
+            false => quick_message(n),
+        };
+        for length in [0, 1, 64, 65, longest] {
             let (message, most) = (Random::new(512).bytes(length), Cell::new(0));
             let (mut stream, mut supply) = (begun(n, &[]), ending(usize::MAX, &most));
             let copied = io::copy(&mut &message[..], &mut stream.writer(&mut supply));

@@ -3,8 +3,9 @@
 use crate::report;
 use flamivorse::{
     a2b, hmac_sha1_words, open_xor, split_key_words, Key, Refusal, KEY_LIMIT, MESSAGE_LIMIT,
-    TAG_BYTES,
+    SHARES_LIMIT, TAG_BYTES,
 };
+use fuzz::calls::{quick_message, COUNTS, SOME_COUNTS};
 use fuzz::random::Random;
 use hmac::{Hmac, Mac};
 use sha1::Sha1;
@@ -41,28 +42,47 @@ fn compare(n: usize, length: usize, random: &mut Random) {
 }
 
 /// Lengths where a block ends (multiples of 64) or its padding does (8 less), and those beside
-/// them, for every so manieth block.
-fn edges(blocks: usize) -> impl Iterator<Item = usize> {
+/// them, for every so manieth block, as far as is quick at so many shares.
+fn edges(n: usize, blocks: usize) -> impl Iterator<Item = usize> {
     let around = |edge: usize| [edge - 9, edge - 8, edge - 7, edge - 1, edge, edge + 1];
-    let edges = (64 * blocks..=MESSAGE_LIMIT).step_by(64 * blocks);
-    edges
-        .flat_map(around)
-        .filter(|&length| length <= MESSAGE_LIMIT)
+    let edges = (64 * blocks..=quick_message(n)).step_by(64 * blocks);
+    edges.flat_map(around)
 }
 
-/// At one and two shares every length and edge; at four and eight, where a tag draws millions of
-/// words, every length to 200 and some of the edges.
+/// At each share count every so manieth length to 200, and the edges of every so manieth block:
+/// fewer at more shares, where a tag draws millions of words.
+const TRIED: [(usize, usize, usize); SOME_COUNTS.len()] = [
+    (1, 1, 1),
+    (2, 1, 1),
+    (3, 1, 8),
+    (4, 1, 4),
+    (5, 3, 4),
+    (8, 5, 8),
+    (SHARES_LIMIT, 40, 2),
+];
+
 #[test]
 fn against_rustcrypto() {
     let mut random = Random::new(400);
     let mut cases = 0;
-    for (n, blocks) in [(1, 1), (2, 1), (4, 4), (8, 16)] {
-        for length in (0..=200).chain(edges(blocks)) {
+    for (n, step, blocks) in TRIED {
+        for length in (0..=200).step_by(step).chain(edges(n, blocks)) {
             compare(n, length, &mut random);
             cases += 1;
         }
     }
     report(cases, "tags against RustCrypto");
+}
+
+/// In one call at one and two shares: at more the words are hundreds of megabytes.
+#[test]
+fn longest_messages() {
+    let mut random = Random::new(403);
+    for n in [1, 2] {
+        compare(n, MESSAGE_LIMIT - 1, &mut random);
+        compare(n, MESSAGE_LIMIT, &mut random);
+    }
+    report(4, "tags of the longest messages");
 }
 
 /// The SHA-1 cases of RFC 2202: key, message, tag. The keys of the last two are hashed.
@@ -110,7 +130,7 @@ pub fn rfc2202() -> [(Vec<u8>, Vec<u8>, &'static str); 7] {
 fn vectors_of_rfc_2202() {
     let mut random = Random::new(401);
     let mut cases = 0;
-    for n in [1, 2, 4, 8] {
+    for n in SOME_COUNTS {
         for (key, message, expected) in rfc2202() {
             let tag = tag(n, &key, &message, &mut random).expect("within the limits");
             let text: String = tag.iter().map(|byte| format!("{byte:02x}")).collect();
@@ -124,25 +144,21 @@ fn vectors_of_rfc_2202() {
 #[test]
 fn limits() {
     let mut random = Random::new(402);
-    for n in [1, 2, 4, 8] {
-        compare(n, MESSAGE_LIMIT, &mut random);
-        let key = Key::split(n, b"key", &random.words(16 * (n - 1))).expect("within the limits");
-        let words = random.words(
-            hmac_sha1_words(n, MESSAGE_LIMIT)
-                .expect("within the limits")
-                .words(),
-        );
-        assert_eq!(
-            key.tag(&[0; MESSAGE_LIMIT + 1], &words),
-            Err(Refusal::TooLong)
-        );
+    for n in COUNTS {
+        let words = random.words(16 * (n - 1));
+        let key = Key::split(n, b"key", &words).expect("within the limits");
+        let tag = key.tag(&[0; MESSAGE_LIMIT + 1], &words);
+        assert_eq!(tag, Err(Refusal::TooLong));
         assert_eq!(hmac_sha1_words(n, MESSAGE_LIMIT + 1), Err(Refusal::TooLong));
-        assert!(Key::split(n, &[0; KEY_LIMIT], &words).is_ok());
-        assert_eq!(
-            Key::split(n, &[0; KEY_LIMIT + 1], &words).err(),
-            Some(Refusal::TooLong)
-        );
+        let short = key.tag(&[0; MESSAGE_LIMIT], &words).err();
+        assert_eq!(short, (n > 1).then_some(Refusal::SupplyShort));
+        let split = Key::split(n, &[0; KEY_LIMIT + 1], &words);
+        assert_eq!(split.err(), Some(Refusal::TooLong));
         assert_eq!(split_key_words(n, KEY_LIMIT + 1), Err(Refusal::TooLong));
+    }
+    for n in SOME_COUNTS {
+        let count = split_key_words(n, KEY_LIMIT).expect("within the limits");
+        assert!(Key::split(n, &[0; KEY_LIMIT], &random.words(count.words())).is_ok());
     }
     let mut x = [0; 2];
     let words = random.words(34);
@@ -155,9 +171,9 @@ fn limits() {
         Ok(34)
     );
     assert_eq!(open_xor(2, &x), Ok(1000));
-    for n in [0, 3] {
+    for n in [0, SHARES_LIMIT + 1] {
         assert_eq!(a2b(n, &[], &mut [], &[]), Err(Refusal::ShareCount));
         assert_eq!(Key::split(n, b"key", &[]).err(), Some(Refusal::ShareCount));
     }
-    report(4 * 6 + 7, "limits");
+    report(COUNTS.len() * 5 + SOME_COUNTS.len() + 7, "limits");
 }

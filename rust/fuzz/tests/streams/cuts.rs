@@ -3,7 +3,7 @@
 
 use crate::{report, FEED, FINISH, START, TARGETS};
 use flamivorse::MESSAGE_LIMIT;
-use fuzz::calls::{named, Call, Target, COUNTS};
+use fuzz::calls::{named, quick_message, Call, Target, SOME_COUNTS};
 use fuzz::lent::{Arguments, Lengths};
 use fuzz::random::Random;
 use hmac::{Hmac, Mac};
@@ -154,35 +154,41 @@ fn some_cuts(length: usize, random: &mut Random) -> [Vec<usize>; 4] {
     [vec![1; length], around, any, vec![length]]
 }
 
-/// Every cut; some where the key is hashed, since the calls of a message know nothing of that.
+/// Every cut at up to four shares; some at more, where each draws many words, and where the key is
+/// hashed, since the calls of a message know nothing of that.
 #[test]
 fn cuts_of_rfc_2202() {
     let mut random = Random::new(604);
     let mut cases = 0;
     for [key, message, tag] in rfc2202() {
         assert_eq!(outside_tag(&key, &message), tag);
-        let cuts = match key.len() {
-            0..=64 => every_cut(message.len()),
-            _ => some_cuts(message.len(), &mut random).into(),
-        };
-        for n in COUNTS {
-            cases += compare_cuts(n, &key, &message, &cuts);
+        let (every, some) = (
+            every_cut(message.len()),
+            some_cuts(message.len(), &mut random),
+        );
+        for n in SOME_COUNTS {
+            let cuts = match (n, key.len()) {
+                (..=4, ..=64) => &every[..],
+                (..=8, _) => &some[..],
+                _ => &some[..2],
+            };
+            cases += compare_cuts(n, &key, &message, cuts);
         }
     }
     report(cases, "cuts of RFC 2202 by Rust and C, against second");
 }
 
 /// At each share count lengths around the ends of blocks and of their padding, then any, and the
-/// longest; of these fewer, and fewer cuts, the more words they draw.
+/// longest that is quick; fewer of them, and fewer cuts, where they draw more words.
 #[test]
 fn cuts_of_random_messages() {
     let mut random = Random::new(601);
     let mut cases = 0;
-    for (n, (any, most)) in COUNTS.into_iter().zip([(2, 4), (1, 4), (1, 3), (0, 2)]) {
-        let edges = [0, 55, 56, 64, 65, 183].map(|length| (length, 4));
-        let any = (0..any).map(|_| (random.below(MESSAGE_LIMIT), most));
-        let any: Vec<_> = any.chain([(MESSAGE_LIMIT, most)]).collect();
-        for (length, cuts) in edges.into_iter().chain(any) {
+    let tried = [(2, 4), (1, 4), (0, 2), (1, 3), (0, 2), (0, 2), (0, 1)];
+    for (n, (any, cuts)) in SOME_COUNTS.into_iter().zip(tried) {
+        let any = (0..any).map(|_| random.below(quick_message(n)));
+        let any: Vec<_> = any.chain([quick_message(n)]).collect();
+        for length in [0, 55, 56, 64, 65, 183].into_iter().chain(any) {
             let key = random.key_length();
             let (key, message) = (random.bytes(key), random.bytes(length));
             let lengths = some_cuts(length, &mut random);
@@ -192,5 +198,25 @@ fn cuts_of_random_messages() {
     report(
         cases,
         "cuts of random messages by Rust and C, against second",
+    );
+}
+
+/// The longest message in pieces around a block, with words made for each of them.
+#[test]
+fn longest_message() {
+    let counts = [1, 2, 3];
+    let mut random = Random::new(605);
+    let message = random.bytes(MESSAGE_LIMIT);
+    let lengths = pieces(MESSAGE_LIMIT, |_| 62 + random.below(5));
+    for (n, target) in counts.into_iter().zip([Target::Rust, Target::C, Target::C]) {
+        let mut run = Run::new(target, n, b"key");
+        run.make(START, &[]);
+        run.feed(&message, &lengths);
+        run.make(FINISH, &[]);
+        assert_eq!(run.lent.tag.slice(), outside_tag(b"key", &message));
+    }
+    report(
+        counts.len(),
+        "longest messages by Rust and C, against second",
     );
 }

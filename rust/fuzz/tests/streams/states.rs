@@ -3,13 +3,18 @@
 
 use crate::{report, FEED, FINISH, START, TARGETS};
 use flamivorse::MESSAGE_LIMIT;
-use fuzz::calls::{refused, Call, Outcome, Target, COUNTS, STREAM_CALLS, WRONG_COUNTS};
+use fuzz::calls::{
+    refused, Call, Outcome, Target, COUNTS, SOME_COUNTS, STREAM_CALLS, WRONG_COUNTS,
+};
 use fuzz::lent::{Arguments, Outline};
 use fuzz::random::Random;
 
+/// The most bytes that a state can have.
+const LIMIT: u64 = MESSAGE_LIMIT as u64;
+
 /// Where the places of a state begin that are not read: in its chains, and in its tail.
 fn unread(state: Outline) -> (usize, usize) {
-    match state.finished == 0 && COUNTS.contains(&state.n) && state.fed <= MESSAGE_LIMIT as u64 {
+    match state.finished == 0 && COUNTS.contains(&state.n) && state.fed <= LIMIT {
         true => (5 * state.n, state.fed as usize % 64),
         false => (0, 0),
     }
@@ -82,15 +87,15 @@ const FIT: [(u64, usize); 7] = [
     (63, 66),
     (0, 0),
     (119, 0),
-    (4000, 96),
-    (4096, 0),
+    (LIMIT - 96, 96),
+    (LIMIT, 0),
 ];
 
 #[test]
 fn unread_places_have_no_say() {
     let mut random = Random::new(602);
     let mut cases = 0;
-    for n in COUNTS {
+    for n in SOME_COUNTS {
         for (fed, piece) in FIT {
             let state = Outline { fed, ..n.into() };
             for call in &STREAM_CALLS {
@@ -109,7 +114,7 @@ fn states(n: usize) -> Vec<Outline> {
         finished: 0,
     };
     let counts = WRONG_COUNTS.map(|n| Outline { n, ..fit });
-    let bytes = [4097, 70 + (1 << 32), u64::MAX].map(|fed| Outline { fed, ..fit });
+    let bytes = [LIMIT + 1, 70 + (1 << 32), u64::MAX].map(|fed| Outline { fed, ..fit });
     let marks = [1, 2, 1 << 31, u32::MAX].map(|finished| Outline { finished, ..fit });
     let unfit = counts.into_iter().chain(bytes).chain(marks);
     [fit].into_iter().chain(unfit).collect()
@@ -156,7 +161,7 @@ fn compare_faults(
 fn every_combination_of_faults() {
     let mut random = Random::new(603);
     let mut cases = 0;
-    for states in COUNTS.map(states) {
+    for states in SOME_COUNTS.map(states) {
         for call in [FEED, FINISH] {
             for faults in 0..4 {
                 let (wrong, short) = (faults & 1 > 0, faults & 2 > 0);
@@ -169,7 +174,7 @@ fn every_combination_of_faults() {
 
 /// Numbers of bytes from 0 on, around the limit, and at the ends of 32 and 64 bits.
 fn lengths() -> impl Iterator<Item = u64> {
-    let edges = [MESSAGE_LIMIT as u64, 1 << 32, u64::MAX];
+    let edges = [LIMIT, 1 << 32, u64::MAX];
     let around = edges.map(|edge| edge - 66..=edge.saturating_add(1));
     (0..=130).chain(around.into_iter().flatten())
 }
