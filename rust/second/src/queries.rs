@@ -108,7 +108,7 @@ pub fn split_key_words(n: usize, key_len: usize) -> Answer {
     let length = key_len as u64;
     query(n, &[(4, key_len > KEY_LIMIT)], |n| match length {
         0..=64 => 16 * (n - 1),
-        _ => (length + 3) / 4 * (n - 1) + ((length + 8) / 64 + 1) * compression(n),
+        _ => length.div_ceil(4) * (n - 1) + ((length + 8) / 64 + 1) * compression(n),
     })
 }
 

@@ -92,7 +92,7 @@ pub(crate) fn split_key(n: usize, key: &[u8], supply: &mut Supply) -> Option<Vec
 /// filled with zero bytes, and then hashed in shares under their true length". Section 6: "a
 /// padding byte in a word already shared, goes into share 1", "whole words of padding" are public.
 fn long_key_digest(n: usize, key: &[u8], supply: &mut Supply) -> Option<Vec<Shared>> {
-    let length = (key.len() + 3) / 4 * 4;
+    let length = key.len().next_multiple_of(4);
     let mut words = split_bytes(n, key, length, supply)?;
     let padding = padding(key.len() as u64);
     let (in_last_word, whole_words) = padding.split_at(length - key.len());

@@ -26,6 +26,11 @@ fn shares() {
         (drawn.map(Drawn::words), y),
         (Ok(6), [0x71, 0x192, 0x2a4, 0x348])
     );
+    let drawn = refresh(3, &[1, 2, 4], &mut y[..3], &[0x10, 0x20, 0x40]);
+    assert_eq!(
+        (drawn.map(Drawn::words), &y[..3]),
+        (Ok(3), &[0x31, 0x52, 0x64][..])
+    );
     let drawn = expand(2, &[0x11, 0x22], &mut y, &[0x01, 0x02]);
     assert_eq!(
         (drawn.map(Drawn::words), y),
@@ -38,7 +43,7 @@ fn shares() {
     let words = [0x01, 0x02, 0x40, 0x80];
     let drawn = b2a_short(2, &[0x13, 0x36], &mut z, &words);
     assert_eq!((drawn.map(Drawn::words), z), (Ok(4), [0x37, 0xffff_ffee]));
-    report(5, "reference values of shares");
+    report(6, "reference values of shares");
 }
 
 /// The words that docs/RULES.md lends.
@@ -56,6 +61,9 @@ fn shares_by_given_words() {
     assert!(a2b(8, &[1, 2, 3, 4, 5, 6, 7, 8], &mut x, &given_words(1432)).is_ok());
     assert_eq!(x[..4], [0xc3e0_9b4a, 0x320f_6d3e, 0xa06c_b9e4, 0x511f_f1f0]);
     assert_eq!(x[4..], [0xdf39_f746, 0xea30_c992, 0x3b90_7614, 0x0e05_f684]);
+    assert!(a2b(7, &[1, 2, 3, 4, 5, 6, 7], &mut x[..7], &given_words(1082)).is_ok());
+    assert_eq!(x[..4], [0x3093_6bf7, 0x6196_d521, 0x174d_f91c, 0x1998_bebe]);
+    assert_eq!(x[4..7], [0xf833_ce24, 0x9f6c_0b22, 0x388f_3c6e]);
     assert!(b2a_short(4, &[1, 2, 3, 4], &mut a, &given_words(40)).is_ok());
     assert_eq!(a, [0x1af0_4248, 0x73e5_1ef4, 0xa2bb_c784, 0xce6e_d744]);
     let bytes: Vec<u8> = (0..66).collect();
@@ -71,7 +79,7 @@ fn shares_by_given_words() {
     );
     assert_eq!(key[8..10], [0xf6a3_c5e7, 0xa13f_61f7]);
     assert_eq!(key[10..], [0; 22]);
-    report(4, "values for given words");
+    report(5, "values for given words");
 }
 
 /// What a query tells at each share count.
