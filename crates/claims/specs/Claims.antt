@@ -26,7 +26,8 @@ use Rattle.rules.specs.Hash.{hmac}
 use Rattle.rules.specs.Standard.{SHA1, ROTL, complement, Ch, Parity, Maj, f, schedule, round, rounds, sums, compress}
 use Rattle.rules.specs.Sha1.{openWords, used, compress as compressShares}
 use Rattle.rules.specs.Hmac.{splitKey, hmacTag}
-use Rattle.rules.specs.Counts.{refreshDraws, addDraws, toBoolDraws, toArithDraws, shortDraws, compressDraws, keyDraws, sha1}
+use Rattle.rules.specs.Counts.{refreshDraws, addDraws, toBoolDraws, toArithDraws, shortDraws, compressDraws}
+use Rattle.rules.specs.Counts.{keyDraws, sha1}
 use Rattle.rules.specs.Calls.{call, b2aTwo, a2bTwo, b2aRecordCall, a2bRecordCall, splitCall, openXorCall, openSumCall}
 use Rattle.rules.specs.Calls.{refreshCall, expandCall, andCall, addCall, a2bCall, b2aCall, b2aShortCall, splitKeyCall}
 use Rattle.rules.specs.Calls.{compressCall, hmacCall}
@@ -46,8 +47,8 @@ use Rattle.rules.proofs.AtStreams.{finish-outcome, finish-count, finish-past, s
 use Rattle.rules.proofs.AtStreams.{one-call-tag, sha1-tag}
 use Rattle.rules.proofs.Openings.{opened-lt}
 use Rattle.rules.proofs.Addition.{add-rule, split-rule}
-use Rattle.rules.proofs.Conversion.{add-adds as add-all, refresh-refreshes, draws-one, draws-power, draws-other, toBool-rule}
-use Rattle.rules.proofs.Conversion.{toArith-rule}
+use Rattle.rules.proofs.Conversion.{add-adds as add-all, refresh-refreshes, draws-one, draws-power, draws-other}
+use Rattle.rules.proofs.Conversion.{toBool-rule, toArith-rule}
 use Rattle.rules.proofs.Short.{short-none, short-more, short-closed, toArithShort-rule, toArithShort-opens}
 use Rattle.rules.proofs.Ends.{b2a-length, a2b-length, b2a-ends, a2b-ends}
 use Rattle.rules.proofs.Demand3.{b2a-independent, a2b-independent}
@@ -242,8 +243,8 @@ pub back-and-there : (n : ℕ) (a : List ℕ) → Words 32 a
     → Makes 32 (a2bCall 32 n a) (λ x. Makes 32 (b2aCall 32 n x) (λ b. total b % 2 ^ 32 ≡ total a % 2 ^ 32))
 back-and-there n a u = makes (calls-follow n .a2b-follows a u) (λ c i t. back-there n c a i u)
 
--- Both conversions at every width and of any number of shares from one on: they keep the secret, and draw W(n) words and
--- those of Boolean to arithmetic.
+-- Both conversions at every width and of any number of shares from one on: they keep the secret, and draw what the
+-- counts say.
 module _ (k : ℕ) (wide : 0 < k) (x : List ℕ) (some : 0 < length x) (words : Words k x) (ws : List ℕ) (at : ℕ) where
   pub to-bool-keeps : opened (toBool (add k) x ws at .0) ≡ total x % 2 ^ k
   to-bool-keeps = toBool-rule k (addDraws k) (add k) (add-all k wide) x some words .makes ws at .1

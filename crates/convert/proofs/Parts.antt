@@ -1,6 +1,6 @@
 -- The conversions, from the parts that the code works out one after the other.
-use Prim.Native.Nat.{ℕ, zero, suc, _+_, _-_, _*_, _/_, _≤_, _<_}
-use mathlib.Core.Path.{_≡_, refl, sym, ap, _∙_}
+use Prim.Native.Nat.{ℕ, _+_, _-_, _*_, _/_, _≤_, _<_}
+use mathlib.Core.Path.{_≡_, sym, ap, _∙_}
 use mathlib.Core.Bool.{Bool, true, false}
 use mathlib.Core.List.{List, _++_}
 use native.Mathlib.Nat.{sub-zero, zero-add}
@@ -52,6 +52,14 @@ module _ (n m at : ℕ) (b : Bool) (is : b ≡ powerOfTwo n) where
     pub refresh-place : (p : ℕ) → p ≡ at + (length y - 1) → p ≡ at + widenDraws n m
     refresh-place p h = h ∙ rw (sym is ∙ e, put, length-sets came i half, l)
 
+filled-zeros : (n : ℕ) (half : List ℕ) → length half ≤ n
+    → sets (replicate n 0) 0 half ≡ half ++ replicate (n - length half) 0
+filled-zeros n half h =
+    let room = length-replicate {A = ℕ} n 0 in
+    let rest : drop {A = ℕ} (0 + length half) (replicate n 0) ≡ replicate (n - length half) 0 =
+    rw (zero-add (length half)) (rw sub-zero at (zeros-after n (length half) h)) in
+    sets-eq half (replicate n 0) 0 (omega arith) ∙ ap (λ (r : List ℕ). half ++ r) rest
+
 module _ (n : ℕ) (half x ws : List ℕ) (at p : ℕ) (b : Bool) (is : b ≡ powerOfTwo n) where
   pub widen-expanded : b ≡ true → expand half ws at ≡ (x, p) → widen n half ws at ≡ (x, p)
   unfolding widen
@@ -63,10 +71,7 @@ module _ (n : ℕ) (half x ws : List ℕ) (at p : ℕ) (b : Bool) (is : b ≡ po
   unfolding widen
   widen-filled m came y e parts l zeros put f =
       let part = parts .part in
-      let room = length-replicate {A = ℕ} n 0 in
-      let made : y ≡ half ++ replicate (n - length half) 0 =
-      put ∙ rw zeros (sets-eq half (replicate n 0) 0 (omega arith) ∙ ap (λ (r : List ℕ). half ++ r) (rw (zero-add (length half)) (rw sub-zero at (zeros-after n (length half) (omega arith))))) in
-      rw (sym is ∙ e, ← made) f
+      rw (sym is ∙ e, ← put ∙ ap (λ c. sets c 0 half) zeros ∙ filled-zeros n half (omega arith)) f
 
 -- ---- arithmetic to Boolean
 module _ (n m at p : ℕ) (drew : p ≡ at + toBoolDraws (addDraws bits) m) where

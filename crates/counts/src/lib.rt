@@ -12,7 +12,7 @@ ghost use Rattle.rules.specs.Counts.{refreshDraws, andDraws, addDraws, toBoolDr
 ghost use Rattle.rules.specs.Counts.{compressDraws, compressions, keyDraws, hmacDraws, startDraws, feedDraws};
 ghost use Rattle.rules.specs.Counts.{finishDraws, sha1};
 ghost use Rattle.rules.specs.Calls.{query};
-ghost use Rattle.counts.specs.Queries.{taken, byPower, byText};
+ghost use Rattle.counts.specs.Queries.{taken, byText};
 use numbers::DONE;
 use numbers::TOO_LONG;
 use numbers::WRONG_COUNT;
@@ -33,7 +33,23 @@ use width::BITS;
 
 // W(n), from n = 0 on: what arithmetic to Boolean draws.
 const TO_BOOL: [usize; 17] = [
-    0, 0, 34, 134, 264, 496, 758, 1082, 1432, 1928, 2450, 3034, 3650, 4360, 5102, 5902, 6720,
+    0,
+    0,
+    34,
+    134,
+    264,
+    496,
+    758,
+    1082,
+    1432,
+    1928,
+    2450,
+    3034,
+    3650,
+    4360,
+    5102,
+    5902,
+    6720,
 ];
 
 // How many ANDs a compression makes.

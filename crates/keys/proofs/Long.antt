@@ -66,8 +66,9 @@ module _ (n : ℕ) (some : 0 < n) (bytes : ℕ) (lasts ws : List ℕ) (at j : �
       ∙ each-take bitXor (16 * n) (drop (j * (16 * n)) whole) (drop (j * (16 * n)) (publics n pads))))
 
 -- ---- the digest's words, then zero shares
-pub digest-made : (n m : ℕ) (chain zs d : List ℕ) → n ≤ largest → length (map (λ (v : ℕ). v) chain) ≡ chainRoom → m ≡ 16 * n
-    → zs ≡ replicate m 0 → d ≡ take (5 * n - 0) chain → d ++ drop (5 * n - 0) zs ≡ filled (16 * n) (used n chain)
+pub digest-made : (n m : ℕ) (chain zs d : List ℕ) → n ≤ largest → length (map (λ (v : ℕ). v) chain) ≡ chainRoom
+    → m ≡ 16 * n → zs ≡ replicate m 0 → d ≡ take (5 * n - 0) chain
+    → d ++ drop (5 * n - 0) zs ≡ filled (16 * n) (used n chain)
 digest-made n m chain zs d few whole size e f =
     let long : length (used n chain) ≡ 5 * n = length-used n chain few (chain-length chain whole) in
     rw (e, f, used-lent n chain, size, zeros-after (16 * n) (5 * n) (omega arith), long)

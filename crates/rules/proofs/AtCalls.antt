@@ -2,7 +2,6 @@
 -- a compression comes to. crates/claims takes them to the calls.
 use Prim.Native.Nat.{ℕ, zero, suc, _+_, _-_, _*_, _/_, _%_, _^_, _≤_, _<_}
 use mathlib.Core.Path.{_≡_, refl, sym, ap, _∙_}
-use mathlib.Core.Bool.{true}
 use mathlib.Core.List.{List, _∷_, _++_}
 use native.Mathlib.Nat.{suc-mul, mul-assoc, pow-suc}
 use native.Mathlib.Omega.{arith}
@@ -16,7 +15,7 @@ use Rattle.words.proofs.Words.{xor-back}
 use Rattle.rules.specs.declared.Chain.{Chain}
 use Rattle.rules.specs.declared.Compressed.{Compressed}
 use Rattle.rules.specs.Supply.{Draw, Rule, Shares, Words, opened, total}
-use Rattle.rules.specs.Numbers.{allowed, test, first}
+use Rattle.rules.specs.Numbers.{test, first}
 use Rattle.rules.specs.Shares.{refresh, expand, and, add}
 use Rattle.rules.specs.Convert.{toBool, toArith}
 use Rattle.rules.specs.Short.{toArithShort}
@@ -34,7 +33,8 @@ use Rattle.rules.proofs.Openings.{opened-lt}
 use Rattle.rules.proofs.Pairs.{refresh-rule, and-rule}
 use Rattle.rules.proofs.Addition.{expand-rule}
 use Rattle.rules.proofs.Conversion.{Adds, words-take, words-drop, add-adds, refresh-refreshes, toBool-rule}
-use Rattle.rules.proofs.Conversion.{draws-one, draws-power, toArith-rule, toArith-opens, there-and-back, back-and-there}
+use Rattle.rules.proofs.Conversion.{draws-one, draws-power, toArith-rule, toArith-opens, there-and-back}
+use Rattle.rules.proofs.Conversion.{back-and-there}
 use Rattle.rules.proofs.Short.{toArithShort-rule, short-closed}
 use Rattle.rules.proofs.Allowed.{power-within}
 use Rattle.rules.proofs.MaskedHmac.{Keeps}
@@ -113,8 +113,8 @@ toArith-keeps k wide x some u ws at =
 pub short-law : (n : ℕ) → Power n → (x : List ℕ) → length x ≡ n
     → Rule (7 * 2 ^ (n - 1) - 3 * n - 4) (λ a. length a ≡ n) (toArithShort 32 x)
 short-law n count x size =
-    said (toArithShort-rule 32 x) (ap shortDraws size ∙ short-closed n (power-within n (passed (says-power n) count) .0))
-    (λ z g. g ∙ size)
+    let some = power-within n (passed (says-power n) count) .0 in
+    said (toArithShort-rule 32 x) (ap shortDraws size ∙ short-closed n some) (λ z g. g ∙ size)
 
 module _ (n : ℕ) (count : Allowed n) where
   pub some : 0 < n
@@ -150,7 +150,8 @@ module _ (n : ℕ) (count : Allowed n) where
         record {
           made = λ came vs w′ h.
               rw h
-              (there-and-back 32 (addDraws 32) (add 32) adds refreshDraws refresh refresh-refreshes x sized small ws vs 0 0 w);
+              (there-and-back 32 (addDraws 32) (add 32) adds refreshDraws refresh refresh-refreshes x sized small
+              ws vs 0 0 w);
         }
 
     pub back-there : (ws : List ℕ) → Words 32 ws
@@ -160,7 +161,8 @@ module _ (n : ℕ) (count : Allowed n) where
         record {
           made = λ came vs w′ h.
               rw h
-              (back-and-there 32 (addDraws 32) (add 32) adds refreshDraws refresh refresh-refreshes x ws vs 0 0 sized words w′);
+              (back-and-there 32 (addDraws 32) (add 32) adds refreshDraws refresh refresh-refreshes x
+              ws vs 0 0 sized words w′);
         }
 
   -- ---- SHA-1 in shares, and a tag

@@ -7,7 +7,8 @@ use native.Mathlib.Nat.{mod-lt, mod-eq-of-lt, add-mod, add-mod-mod, add-zero, ad
 use native.Mathlib.Omega.{arith}
 use lib.Bits.{xor-zero-r}
 use lib.Dec.{eqb, leb}
-use lib.ListN.{length, take, drop, replicate, length-append, length-drop, length-map, length-replicate, take-append-drop}
+use lib.ListN.{length, take, drop, replicate, length-append, length-drop, length-map, length-replicate}
+use lib.ListN.{take-append-drop}
 use lib.Pow.{pow-pos}
 use lib.Seq.{length-take-le, getD-drop}
 use borrow.Author.Tests.{eqb-true, eq-eqb, leb-true, le-leb, lt-leb, leb-false}

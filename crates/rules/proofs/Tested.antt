@@ -1,8 +1,8 @@
 -- What each kind of call tests: once that was passed, what its callee may ask, and that its rule draws what its query
 -- tells. Which tests a call has is said here alone of all proofs.
 use Prim.Native.Nat.{ℕ, _+_, _*_, _-_, _^_, _≤_, _<_}
-use mathlib.Core.Path.{_≡_, refl, sym, _∙_}
-use mathlib.Core.Bool.{Bool, true, false}
+use mathlib.Core.Path.{_≡_, sym, _∙_}
+use mathlib.Core.Bool.{Bool, true}
 use mathlib.Core.List.{List, [], _∷_, map}
 use native.Mathlib.Nat.{zero-add}
 use native.Mathlib.Omega.{arith}
@@ -34,7 +34,6 @@ use Rattle.rules.proofs.Loops.{chain-length, length-used}
 use Rattle.rules.proofs.Allowed.{both-true, power-within, within}
 use Rattle.rules.proofs.Calls.{passed, holds, same-test, settled-refused, tells}
 
-
 -- a query refuses nothing of a share count that is taken, with a text that fits
 pub taken : {counted : Bool} → counted ≡ true → first (test 1 counted ∷ []) ≡ 0
 unfolding first test
@@ -61,7 +60,8 @@ module _ {n have number : ℕ} {q : Answer} where
   module _ (d : ℕ → ℕ) {x y : ℕ} where
     counted-ready : {most : ℕ} (counted : ℕ → Bool) → ((n : ℕ) → counted n ≡ true → (0 < n) × (n ≤ most)) → (m : ℕ → ℕ)
         → query (test 1 (counted n) ∷ []) (d n) ≡ q
-        → first (test 1 (counted n) ∷ test 2 (eqb x n) ∷ test 3 (eqb y (m n)) ∷ test 5 (leb (q .drawn) have) ∷ []) ≡ number
+        → first (test 1 (counted n) ∷ test 2 (eqb x n) ∷ test 3 (eqb y (m n)) ∷ test 5 (leb (q .drawn) have) ∷ [])
+        ≡ number
         → number ≡ 0 → (x ≡ n) × (y ≡ m n) × Ready most x (d x) have
     counted-ready counted bounds m e is z =
         let p = passed _ (is ∙ z) in
@@ -71,7 +71,8 @@ module _ {n have number : ℕ} {q : Answer} where
         (size, eqb-true y (m n) (holds _ _ (p .1 .1 .0)), rw size room)
 
     pub one-ready : (m : ℕ → ℕ) → query (test 1 (allowed n) ∷ []) (d n) ≡ q
-        → first (test 1 (allowed n) ∷ test 2 (eqb x n) ∷ test 3 (eqb y (m n)) ∷ test 5 (leb (q .drawn) have) ∷ []) ≡ number
+        → first (test 1 (allowed n) ∷ test 2 (eqb x n) ∷ test 3 (eqb y (m n)) ∷ test 5 (leb (q .drawn) have) ∷ [])
+        ≡ number
         → number ≡ 0 → (x ≡ n) × (y ≡ m n) × Ready largest x (d x) have
     one-ready = counted-ready allowed within
 
@@ -113,7 +114,8 @@ module _ {n have number : ℕ} {q : Answer} where
         let p = passed _ (is ∙ z) in
         let count = holds _ _ (p .0) in
         let short = holds _ _ (p .1 .1 .0) in
-        (eqb-true x (16 * n) (holds _ _ (p .1 .0)), short, ready drawn have q _ e (taken-text n _ count short) (within n count) (p .1 .1 .1 .0))
+        let room = ready drawn have q _ e (taken-text n _ count short) (within n count) (p .1 .1 .1 .0) in
+        (eqb-true x (16 * n) (holds _ _ (p .1 .0)), short, room)
 
     pub tag-ready : {sized : Bool}
         → first (test 1 (allowed n) ∷ test 2 (eqb x (16 * n)) ∷ test 3 sized ∷ test 4 fits ∷ test 5 (leb (q .drawn) have) ∷ []) ≡ number
@@ -168,7 +170,8 @@ module _ (n : ℕ) (came ws : List ℕ) (q : Answer) where
       pub refresh-needs : query (test 1 (allowed n) ∷ []) (refreshDraws n) ≡ q → refresh x ws 0 .1 ≡ q .drawn
       refresh-needs e =
           let p = passed _ h in
-          needs (refreshDraws n) q _ ws e (taken (holds _ _ (p .0))) (refresh-rule n x (eqb-true (length x) n (holds _ _ (p .1 .0))))
+          needs (refreshDraws n) q _ ws e (taken (holds _ _ (p .0)))
+          (refresh-rule n x (eqb-true (length x) n (holds _ _ (p .1 .0))))
 
       module _ (w : (i : ℕ) → Fits w32 (getD x i 0)) where
         pub toBool-needs : query (test 1 (allowed n) ∷ []) (toBoolDraws (addDraws 32) n) ≡ q → toBool (add 32) x ws 0 .1 ≡ q .drawn
@@ -216,7 +219,8 @@ module _ (n : ℕ) (came ws : List ℕ) (q : Answer) where
       and-needs e = needs (andDraws n) q _ ws e (taken count-two) (and-rule n x y (sizes-two .0) (sizes-two .1))
 
       pub add-needs : (k : ℕ) → 0 < k → query (test 1 (allowed n) ∷ []) (addDraws k n) ≡ q → add k x y ws 0 .1 ≡ q .drawn
-      add-needs k wide e = needs (addDraws k n) q _ ws e (taken count-two) (add-loop-rule k n x y wide (sizes-two .0) (sizes-two .1))
+      add-needs k wide e =
+          needs (addDraws k n) q _ ws e (taken count-two) (add-loop-rule k n x y wide (sizes-two .0) (sizes-two .1))
 
   pub splitKey-needs : (key : List ℕ)
       → first (test 1 (allowed n) ∷ test 3 (eqb (length came) (16 * n)) ∷ test 4 (leb (length key) longestKey) ∷ []) ≡ 0

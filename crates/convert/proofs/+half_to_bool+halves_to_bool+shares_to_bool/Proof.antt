@@ -8,7 +8,8 @@ use borrow.Fn.Kinds.{In}
 use borrow.Fn.PlainCycle.{Measures, is, falls, and}
 use Rattle.words.proofs.Stores.{lent-zeros}
 use Rattle.rules.specs.Numbers.{largest}
-use Rattle.convert.proofs.Parts.{halved-count, widened-room, widened-place, widened-made, one-made, one-place, toBool-made}
+use Rattle.convert.proofs.Parts.{halved-count, widened-room, widened-place, widened-made}
+use Rattle.convert.proofs.Parts.{one-made, one-place, toBool-made}
 use Rattle.convert.proofs.half_to_bool.Reads as half
 use Rattle.convert.proofs.half_to_bool.Kinds as half-kinds
 use Rattle.convert.proofs.+half_to_bool+halves_to_bool+shares_to_bool.Lts-half_to_bool as half-lts

@@ -1,6 +1,5 @@
 -- the negatives converted, added to x and refreshed, each drawing from where the one before ended
 use borrow.Author.Needs.{needs}
-use native.Mathlib.Omega.{arith}
 use Rattle.convert.proofs.Parts.{less-made}
 use Rattle.convert.proofs.less_at.Statement.{statement}
 use Rattle.convert.proofs.less_at.Tie as tie

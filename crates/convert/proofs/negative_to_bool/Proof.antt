@@ -1,6 +1,5 @@
 -- the negatives, then their conversion
 use borrow.Author.Needs.{needs}
-use native.Mathlib.Omega.{arith}
 use Rattle.convert.proofs.Parts.{negative-made}
 use Rattle.convert.proofs.negative_to_bool.Statement.{statement}
 use Rattle.convert.proofs.negative_to_bool.Tie as tie

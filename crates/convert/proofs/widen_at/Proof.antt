@@ -5,8 +5,8 @@ use Rattle.convert.proofs.Parts.{widen-expanded, widen-filled}
 use Rattle.convert.proofs.widen_at.Statement.{statement}
 use Rattle.convert.proofs.widen_at.Tie as tie
 
-is-power-requires : tie.Need-is-power-requires
-is-power-requires c κs = search needs
+is-power-of-two-requires : tie.Need-is-power-of-two-requires
+is-power-of-two-requires c κs = search needs
 
 expand-at-requires : tie.Need-expand-at-requires
 expand-at-requires c κs = (search needs, search (expand-size, needs), search expand-room)
@@ -27,7 +27,7 @@ pub widen-at-spec : {M : Type 1} → statement M
 widen-at-spec =
     tie.close
     (tie.spec
-    is-power-requires
+    is-power-of-two-requires
     expand-at-requires
     (λ c. search needs)
     returns

@@ -1,8 +1,0 @@
--- one bit, at each count
-use borrow.Author.Needs.{needs}
-use Rattle.rules.proofs.Allowed.{one-bit}
-use Rattle.convert.proofs.is_power.Statement.{statement}
-use Rattle.convert.proofs.is_power.Tie as tie
-
-pub is-power-spec : {M : Type 1} → statement M
-is-power-spec = tie.close (tie.spec (λ c. search needs) (λ c. search one-bit))
