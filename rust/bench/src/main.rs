@@ -10,7 +10,7 @@
 mod optimised;
 mod plot;
 
-use flamivorse::{Chain, State, MESSAGE_LIMIT, TAG_BYTES};
+use flamivorse::{Chain, State, B2A_SHORT_COUNTS, MESSAGE_LIMIT, SHARES_LIMIT, TAG_BYTES};
 use optimised::{Convert, ConvertShort, Optimised, Supply};
 use std::hint::black_box;
 use std::time::{Duration, Instant};
@@ -27,7 +27,16 @@ const STEPS: [&str; 10] = [
     "tag",
     "streamed",
 ];
-const COUNTS: [usize; 4] = [1, 2, 4, 8];
+
+/// The share counts at which a step is measured. A tag at 16 shares needs a third of a gigabyte of
+/// words at once.
+fn counts(step: &str) -> &'static [usize] {
+    match step {
+        "b2a-short" => &B2A_SHORT_COUNTS,
+        "tag" | "streamed" => &[1, 2, 3, 4, 8],
+        _ => &[1, 2, 3, 4, 8, SHARES_LIMIT],
+    }
+}
 
 /// The key that a step splits: a block, or more than a block, which is hashed as well.
 fn key(step: &str) -> &'static [u8] {
@@ -167,7 +176,7 @@ fn streamed<const N: usize>(lent: Lent) -> u32 {
 /// The step in optimised Rust. A streamed tag has the compressions of a tag, and is compared with that.
 fn rust<const N: usize>(step: &str, lent: Lent) -> Step
 where
-    Optimised: Convert<N> + ConvertShort<N>,
+    Optimised: Convert<N>,
 {
     let Lent { input, words, .. } = lent;
     let [x, y] = shared::<N, 2>(input);
@@ -177,7 +186,6 @@ where
         "addition" => Box::new(move || digest(optimised::add(black_box(&x), &y, &mut supply()))),
         "a2b" => Box::new(move || digest(Optimised::a2b(black_box(&x), &mut supply()))),
         "b2a" => Box::new(move || digest(Optimised::b2a(black_box(&x), &mut supply()))),
-        "b2a-short" => Box::new(move || digest(Optimised::b2a_short(black_box(&x), &mut supply()))),
         "compression" => Box::new(move || {
             let (chain, block) = (shared(input), shared(black_box(input)));
             digest(optimised::compress::<N>(&chain, &block, &mut supply()).concat())
@@ -193,6 +201,16 @@ where
             digest(optimised::hmac(&key, lent.message, &mut supply()).map(u32::from))
         }),
     }
+}
+
+/// The short conversion in optimised Rust.
+fn rust_short<const N: usize>(Lent { input, words, .. }: Lent) -> Step
+where
+    Optimised: ConvertShort<N>,
+{
+    let [x] = shared::<N, 1>(input);
+    let supply = move || Supply { words, place: 0 };
+    Box::new(move || digest(Optimised::b2a_short(black_box(&x), &mut supply())))
 }
 
 /// How many words a step draws.
@@ -218,11 +236,17 @@ fn sides(step: &str, n: usize, bytes: usize) -> [Step; 2] {
         message: &MESSAGE[..bytes],
         words,
     };
-    match n {
-        1 => [archive::<1>(step, lent), rust::<1>(step, lent)],
-        2 => [archive::<2>(step, lent), rust::<2>(step, lent)],
-        4 => [archive::<4>(step, lent), rust::<4>(step, lent)],
-        _ => [archive::<8>(step, lent), rust::<8>(step, lent)],
+    match (step, n) {
+        ("b2a-short", 1) => [archive::<1>(step, lent), rust_short::<1>(lent)],
+        ("b2a-short", 2) => [archive::<2>(step, lent), rust_short::<2>(lent)],
+        ("b2a-short", 4) => [archive::<4>(step, lent), rust_short::<4>(lent)],
+        ("b2a-short", _) => [archive::<8>(step, lent), rust_short::<8>(lent)],
+        (_, 1) => [archive::<1>(step, lent), rust::<1>(step, lent)],
+        (_, 2) => [archive::<2>(step, lent), rust::<2>(step, lent)],
+        (_, 3) => [archive::<3>(step, lent), rust::<3>(step, lent)],
+        (_, 4) => [archive::<4>(step, lent), rust::<4>(step, lent)],
+        (_, 8) => [archive::<8>(step, lent), rust::<8>(step, lent)],
+        _ => [archive::<16>(step, lent), rust::<16>(step, lent)],
     }
 }
 
@@ -266,7 +290,7 @@ fn table() {
     println!("| step | shares | archive, µs | optimised Rust, µs | ratio |");
     println!("|---|---|---|---|---|");
     for step in STEPS {
-        for n in COUNTS {
+        for &n in counts(step) {
             let [archive, rust] = measure(compared(step, n, TAGGED));
             println!(
                 "| {step} | {n} | {archive:.3} | {rust:.3} | {:.2} |",
@@ -317,7 +341,7 @@ mod tests {
     #[test]
     fn both_sides_give_the_same_answers() {
         for step in STEPS {
-            for n in COUNTS {
+            for &n in counts(step) {
                 let _ = compared(step, n, 100);
             }
         }

@@ -143,7 +143,17 @@ macro_rules! convert_by_halves {
     )*};
 }
 
-convert_by_halves!(2 of 1, 4 of 2, 8 of 4);
+convert_by_halves!(2 of 1, 4 of 2, 8 of 4, 16 of 8);
+
+/// Three is no power of two: zero shares are appended to each part, and it is refreshed.
+impl Convert<3> for Optimised {
+    fn a2b(a: &[u32; 3], supply: &mut Supply) -> [u32; 3] {
+        let left = refresh_last(entries(&[a[0]], 0), supply.draw(2));
+        let right: [u32; 2] = Self::a2b(&[a[1], a[2]], supply);
+        let right = refresh_last(entries(&right, 0), supply.draw(2));
+        add(&left, &right, supply)
+    }
+}
 
 /// The short conversion from Boolean to arithmetic at one share count. It takes its words at once, as an addition does.
 pub trait ConvertShort<const N: usize> {

@@ -6,7 +6,12 @@ const RIGHT: f64 = 565.0;
 const TOP: f64 = 20.0;
 const BOTTOM: f64 = 345.0;
 
-const COLOURS: [&str; 4] = ["#0072b2", "#009e73", "#d55e00", "#8a4f9e"];
+const CURVES: [(usize, &str); 4] = [
+    (1, "#0072b2"),
+    (2, "#009e73"),
+    (4, "#d55e00"),
+    (8, "#8a4f9e"),
+];
 const HEAD: &str = r##"<svg xmlns="http://www.w3.org/2000/svg" viewBox="0 0 640 400" width="640" height="400"
  font-family="sans-serif" font-size="13" fill="#222">
 <rect width="640" height="400" fill="white"/>
@@ -91,7 +96,7 @@ pub fn svg(unit: &str, lines: &str) -> String {
     let figures: Vec<Figure> = lines.lines().map(figure).collect();
     let axes = Axes::over(&figures);
     let mut svg = HEAD.to_string() + &axes.grid(unit);
-    for (shares, colour) in super::COUNTS.into_iter().zip(COLOURS) {
+    for (shares, colour) in CURVES {
         svg += &axes.curve(shares, &figures, colour);
     }
     svg + "</svg>\n"
