@@ -136,7 +136,7 @@ fn with_count(call: &Call, state: Outline, random: &mut Random) -> Outline {
 fn fed(random: &mut Random) -> u64 {
     let (limit, few) = (MESSAGE_LIMIT as u64, random.below(200) as u64);
     match random.below(32) {
-        0 => limit + 1 + few,
+        0 => limit + 1 + few * random.below(2) as u64,
         1 => u64::MAX - few,
         2 => random.number() as u64,
         3 => (1 << (32 + random.below(32))) + few,
@@ -230,7 +230,8 @@ fn count(call: &Call, fitting: usize, random: &mut Random) -> usize {
 }
 
 /// How many bytes a call is given at so many shares. Of the keys that are hashed and of the long
-/// messages, which is slow, most are put back, and more of them where there are more shares.
+/// messages, which is slow, most are put back, and more of them where there are more shares; but not
+/// the longest message at one or two.
 fn quick_bytes(call: &Call, n: usize, random: &mut Random) -> usize {
     let slow = match call.limit {
         Some(KEY_LIMIT) => 65..=KEY_LIMIT,
@@ -238,7 +239,8 @@ fn quick_bytes(call: &Call, n: usize, random: &mut Random) -> usize {
     };
     loop {
         let bytes = bytes(call, random);
-        if !slow.contains(&bytes) || random.below(8 * n.max(1)) == 0 {
+        let longest = bytes == MESSAGE_LIMIT && n <= 2;
+        if !slow.contains(&bytes) || longest || random.below(8 * n.max(1)) == 0 {
             return bytes;
         }
     }
