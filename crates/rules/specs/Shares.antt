@@ -46,8 +46,8 @@ mix i j s z =
 unfoldable pub refresh : Sharing → Draw Sharing
 refresh x = pass mix (order (length x) 0) x
 
--- The refresh before that request, within the short conversion: for i = 1 to n−1 draw s; yi = xi ⊕ s, and s is XORed
--- into share n
+-- The refresh before that request, within the short conversion and, by (vi), arithmetic to Boolean: for i = 1 to n−1
+-- draw s; yi = xi ⊕ s, and s is XORed into share n
 unfoldable pub refreshLast : Sharing → Draw Sharing
 refreshLast x = pass mix (column (length x - 1) (length x - 1) 0) x
 
