@@ -15,7 +15,7 @@ Adder = Sharing → Sharing → Draw Sharing
 abbrev pub Refresh : Type 0
 Refresh = Sharing → Draw Sharing
 
--- n is one of 1, 2, 4, …, 2^m; and of these for some m
+-- whether n is one of 1, 2, 4, …, 2^m; and whether it is a power of two, for which m = n is enough
 unfoldable pub powerTo : ℕ → Count → Bool
 powerTo zero n = eqb n 1
 powerTo (suc m) n = either (powerTo m n) (eqb n (2 ^ suc m))
@@ -28,8 +28,8 @@ powerOfTwo n = powerTo n n
 unfoldable pub widen : Count → Sharing → Draw Sharing
 widen n x = choose (powerOfTwo n) (expand x) (refreshLast (x ++ replicate (n - length x) 0))
 
--- convert the left half and widen it, then the right half and widen it, then add; of an odd count the right one has
--- more
+-- convert the left half and widen it, then the right half and widen it, then add; of an odd count the right half has
+-- one share more
 unfoldable pub halved : (Sharing → Draw Sharing) → Adder → Sharing → Draw Sharing
 halved convert adder a ws at =
     let n = length a in
