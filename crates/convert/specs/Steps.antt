@@ -9,7 +9,8 @@ use Rattle.words.specs.Word.{minus}
 use Rattle.rules.specs.Supply.{Draw}
 use Rattle.rules.specs.Numbers.{largest}
 use Rattle.rules.specs.Convert.{Adder, Refresh, powerOfTwo, widen, toBool}
-use Rattle.rules.specs.Counts.{addDraws, widenDraws, toBoolDraws}
+use Rattle.rules.specs.Counts.{addDraws, toBoolDraws}
+use Rattle.rules.proofs.Conversion.{halfDraws}
 
 -- m shares, one half of n
 pub record Half (n m : ℕ) : Type 0 where
@@ -26,7 +27,7 @@ widened adder n half ws at =
     widen n (b .0) ws (b .1)
 
 abbrev pub widenedDraws : ℕ → ℕ → ℕ
-widenedDraws n m = toBoolDraws (addDraws bits) m + widenDraws n m
+widenedDraws n m = halfDraws (addDraws bits) n m
 
 -- a share count above one, and its halves
 pub record Halves (n : ℕ) : Type 0 where

@@ -16,7 +16,7 @@ use Rattle.rules.specs.Counts.{andDraws, refreshDraws, addDraws, toBoolDrawsIn,
 use Rattle.rules.specs.Counts.{compressDraws, keyDraws, sha1}
 use Rattle.rules.specs.Calls.{query}
 use Rattle.rules.proofs.Calls.{settled-refused, tells}
-use Rattle.rules.proofs.Sizes.{andDraws-twice, compress-count}
+use Rattle.rules.proofs.Sizes.{compress-count}
 use Rattle.rules.proofs.Keys.{short-draws, long-draws}
 use Rattle.rules.proofs.Allowed.{Taken, one, two, four, eight, counted, both-true, within, some, few}
 use Rattle.rules.proofs.Allowed.{every, each-to}
@@ -116,10 +116,6 @@ taken-made n m e = let within = taken-within n in (e, rw e (within .0), rw e (wi
 
 pub pairs-below : (n : ℕ) → 0 < n → n ≤ largest → n * (n - 1) ≤ 240
 pairs-below n h l = let less : n - 1 ≤ 15 = omega arith in mul-le-mul l less
-
-pub pairs-are : (n : ℕ) → 0 < n → n * (n - 1) / 2 ≡ andDraws n
-pairs-are zero h = absurd (omega arith)
-pairs-are (suc m) h = let e : suc m - 1 ≡ m = omega arith in rw e (omega (arith, andDraws-twice m))
 
 -- W, by a table that is tested at each count
 abbrev pub right : List ℕ → ℕ → Bool

@@ -40,7 +40,7 @@ use Rattle.rules.proofs.Allowed.{power-within}
 use Rattle.rules.proofs.MaskedHmac.{Keeps}
 use Rattle.rules.proofs.Keys.{short-draws, long-draws}
 use Rattle.rules.proofs.Sizes.{add-sizes, compress-sized, hmacTag-sized, splitKey-sized, sha1-size}
-use Rattle.rules.proofs.Sizes.{andDraws-twice, compress-count}
+use Rattle.rules.proofs.Sizes.{andDraws-twice, and-count, compress-count}
 use Rattle.rules.proofs.Opens.{Masks, sha1-opens, compress-opens}
 use Rattle.rules.proofs.Tags.{sha1-proper, sha1-chains, splitKey-opens, hmacTag-is}
 use Rattle.rules.proofs.Outcomes.{says-power, says-count, says-eq, untested, passed, given, settles}
@@ -48,11 +48,6 @@ use Rattle.rules.proofs.Outcomes.{settled-pair, asked}
 use Rattle.rules.proofs.Outcomes.{place, says-supply, alike, as-long}
 
 -- ---- counts in closed form
-and-count : (n : ℕ) → andDraws n ≡ n * (n - 1) / 2
-unfolding andDraws
-and-count zero = refl
-and-count (suc m) = let e : suc m - 1 ≡ m = omega arith in rw e (omega (arith, andDraws-twice m))
-
 pub add-count : (n : ℕ) → addDraws 32 n ≡ 16 * (n * (n - 1))
 unfolding andDraws
 add-count zero = refl

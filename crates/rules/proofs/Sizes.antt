@@ -1,5 +1,5 @@
 -- How many words masked SHA-1 and HMAC draw and how many shares they make, whatever the shares open to.
-use Prim.Native.Nat.{ℕ, zero, suc, _+_, _-_, _*_, _<_}
+use Prim.Native.Nat.{ℕ, zero, suc, _+_, _-_, _*_, _/_, _<_}
 use mathlib.Core.Path.{_≡_, refl, ap, _∙_}
 use mathlib.Core.List.{List}
 use native.Mathlib.Nat.{suc-mul, mul-suc, zero-mul, add-mul, add-zero, mul-assoc}
@@ -113,6 +113,11 @@ pub andDraws-twice : (m : ℕ) → andDraws (suc m) * 2 ≡ suc m * m
 unfolding andDraws
 andDraws-twice zero = refl
 andDraws-twice (suc m) = omega (arith, andDraws-twice m, suc-mul (suc m) (suc m), mul-suc (suc m) m)
+
+pub and-count : (n : ℕ) → andDraws n ≡ n * (n - 1) / 2
+unfolding andDraws
+and-count zero = refl
+and-count (suc m) = let e : suc m - 1 ≡ m = omega arith in rw e (omega (arith, andDraws-twice m))
 
 -- 5,220 n(n − 1) words a compression
 pub compress-count : (n : ℕ) → compressDraws 32 n ≡ 5220 * (n * (n - 1))

@@ -10,7 +10,8 @@ use Rattle.rules.specs.Supply.{next, opened}
 use Rattle.rules.specs.Shares.{each, pass, along, order, column, refreshLast, refresh, expand, and, carries, add}
 use Rattle.rules.specs.Convert.{powerTo, widen, halved, toBoolIn, toBool, toArith}
 use Rattle.rules.specs.Short.{psis, joined, summed, shorter, shortOf, toArithShort}
-use Rattle.rules.specs.Counts.{andDraws, quarterAnds, roundsAnds, compressAnds, hmacDraws, sha1}
+use Rattle.rules.specs.Counts.{andDraws, addDraws, toBoolDrawsIn, toBoolDraws, quarterAnds, roundsAnds, compressAnds, hmacDraws}
+use Rattle.rules.specs.Counts.{sha1}
 
 pub record Row : Type 0 where
   pub given : List ℕ
@@ -42,8 +43,8 @@ table =
     row (drop 44 (a2bRecord 8 0xFF 1 0)) (1 ∷ []) ∷
     -- P8: k=8, x′=12: Ψ(00), Ψ(34)
     row (psi 8 0x12 0 ∷ psi 8 0x12 0x34 ∷ []) (0x12 ∷ 0xF2 ∷ []) ∷
-    -- P9: W(2), W(4), W(8), as the conversion itself draws at 32 bits
-    row (map (λ n. toBool (add 32) (replicate n 0) [] 0 .1) (2 ∷ 4 ∷ 8 ∷ [])) (34 ∷ 264 ∷ 1432 ∷ []) ∷
+    -- P9: W(2), W(4), W(8), and W(3) of request (vi), as the conversion itself draws at 32 bits
+    row (map (λ n. toBool (add 32) (replicate n 0) [] 0 .1) (2 ∷ 4 ∷ 8 ∷ 3 ∷ [])) (34 ∷ 264 ∷ 1432 ∷ 134 ∷ []) ∷
     -- P10, amended by (v): Boolean to arithmetic at 1, 2, 4 and 8 shares, as the conversion itself draws
     row (map (λ n. toArith 32 (add 32) refresh (replicate n 0) [] 0 .1) (1 ∷ 2 ∷ 4 ∷ 8 ∷ []))
     (0 ∷ 68 ∷ 465 ∷ 2363 ∷ []) ∷
@@ -56,8 +57,8 @@ table =
     row (refresh (1 ∷ 2 ∷ 4 ∷ []) (0x10 ∷ 0x20 ∷ 0x40 ∷ []) 0 .0) (0x31 ∷ 0x52 ∷ 0x64 ∷ []) ∷
     row (refresh (1 ∷ 2 ∷ 4 ∷ 8 ∷ []) (0x10 ∷ 0x20 ∷ 0x40 ∷ 0x80 ∷ 0x100 ∷ 0x200 ∷ []) 0 .0)
     (0x71 ∷ 0x192 ∷ 0x2A4 ∷ 0x348 ∷ []) ∷
-    -- request (vi): W(1) to W(16), as the conversion itself draws
-    row (map (λ n. toBool (add 32) (replicate n 0) [] 0 .1)
+    -- request (vi): W(1) to W(16); that the conversion draws so is toBool-rule of proofs/Conversion.antt
+    row (map (toBoolDraws (addDraws 32))
     (1 ∷ 2 ∷ 3 ∷ 4 ∷ 5 ∷ 6 ∷ 7 ∷ 8 ∷ 9 ∷ 10 ∷ 11 ∷ 12 ∷ 13 ∷ 14 ∷ 15 ∷ 16 ∷ []))
     (0 ∷ 34 ∷ 134 ∷ 264 ∷ 496 ∷ 758 ∷ 1082 ∷ 1432 ∷ 1928 ∷ 2450 ∷ 3034 ∷ 3650 ∷ 4360 ∷ 5102 ∷ 5902 ∷ 6720 ∷ []) ∷
     -- and at 2 bits arithmetic to Boolean of (1, 2, 3) with 2, 1, 3, 1, 0, 3, 2, 1, 1, 3, 0, 2, 1, 2
@@ -69,5 +70,5 @@ pub reference : map (λ (r : Row). r .given) table ≡ map (λ (r : Row). r .sta
 unfolding table psi b2aRecord a2bStart a2bRound a2bRounds a2bRecord plus minus shift next opened
     each pass along order column refreshLast refresh expand and carries add
     powerTo widen halved toBoolIn toBool toArith psis joined summed shorter shortOf toArithShort
-    andDraws quarterAnds roundsAnds compressAnds
+    andDraws toBoolDrawsIn toBoolDraws quarterAnds roundsAnds compressAnds
 reference = refl
