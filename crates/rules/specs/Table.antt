@@ -10,8 +10,8 @@ use Rattle.rules.specs.Supply.{next, opened}
 use Rattle.rules.specs.Shares.{each, pass, along, order, column, refreshLast, refresh, expand, and, carries, add}
 use Rattle.rules.specs.Convert.{powerTo, widen, halved, toBoolIn, toBool, toArith}
 use Rattle.rules.specs.Short.{psis, joined, summed, shorter, shortOf, toArithShort}
-use Rattle.rules.specs.Counts.{andDraws, addDraws, toBoolDrawsIn, toBoolDraws, quarterAnds, roundsAnds, compressAnds, hmacDraws}
-use Rattle.rules.specs.Counts.{sha1}
+use Rattle.rules.specs.Counts.{andDraws, addDraws, toBoolDrawsIn, toBoolDraws, quarterAnds, roundsAnds}
+use Rattle.rules.specs.Counts.{compressAnds, hmacDraws, sha1}
 
 pub record Row : Type 0 where
   pub given : List ℕ
