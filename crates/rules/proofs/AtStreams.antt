@@ -22,7 +22,7 @@ use Rattle.rules.specs.Hmac.{Masked}
 use Rattle.rules.specs.Counts.{startDraws, compressions, addDraws, sha1}
 use Rattle.rules.specs.Shares.{add}
 use Rattle.rules.specs.Calls.{call, hmacCall}
-use Rattle.rules.specs.Stream.{Feeds, isFit, state, start, feed, finish, streamed, startCall, feedCall}
+use Rattle.rules.specs.Stream.{Feeds, isFit, state, stateOfZeros, start, feed, finish, streamed, startCall, feedCall}
 use Rattle.rules.specs.Stream.{finishCall, closed, ReadAlike, message, after, drawn, Accepted}
 use Rattle.rules.specs.Outcome.{Allowed, Fit, Whole, Asks, Done, Settles}
 use Rattle.rules.proofs.Rule.{said, counted}
@@ -250,7 +250,7 @@ module _ (n : ℕ) (key ws : List ℕ) where
 
   pub start-outcome : Settles {A = State × ℕ}
       (Asks (Allowed n) 1 (Asks (length key ≡ 16 * n) 2 (Asks (2 * d n ≤ length ws) 5 Done)))
-      (begins .number) (start (sha1 32) n key ws 0) (state 0 0 [] [] [], 0) (begins .state, begins .drawn)
+      (begins .number) (start (sha1 32) n key ws 0) (stateOfZeros, 0) (begins .state, begins .drawn)
   unfolding startCall
   start-outcome =
       call-settles 0 1 (2 * d n) (start (sha1 32) n key) (says-count n) (says-eq (length key) (16 * n)) start-law _ ws
@@ -269,11 +269,11 @@ module _ (n : ℕ) (key ws : List ℕ) where
       (start (sha1 32) n key) _ vs refl same)
 
 module _ (s : State) (whole : Whole s) (ws : List ℕ) where
-  fit-some : Fit s → 0 < s .n
-  fit-some fit = fit .1 .0
+  fit-some : Fit (sha1 32) s → 0 < s .n
+  fit-some fit = fit .counted .0
 
-  fit-few : Fit s → 5 * s .n ≤ chainRoom
-  fit-few fit = omega (arith, fit .1 .1)
+  fit-few : Fit (sha1 32) s → 5 * s .n ≤ chainRoom
+  fit-few fit = omega (arith, fit .counted .1)
 
   -- ---- feed
   module _ (piece : List ℕ) where
@@ -283,24 +283,24 @@ module _ (s : State) (whole : Whole s) (ws : List ℕ) where
     abbrev feed-words : ℕ
     feed-words = (s .bytes % 64 + length piece) / 64 * d (s .n)
 
-    feed-law : Fit s → s .bytes + length piece ≤ longestMessage
+    feed-law : Fit (sha1 32) s → s .bytes + length piece ≤ longestMessage
         → Rule feed-words (λ t. Unit {0}) (feed (sha1 32) s piece)
     feed-law fit short =
         counted (feed-sized (sha1 32) s (fit-some fit) (sha1-size (s .n) (fit-some fit)) refl (fit-few fit) whole piece)
         (ap (λ t. (s .bytes % 64 + length piece) / 64 * t) (compress-count (s .n)))
 
     pub feed-outcome : Settles {A = State × ℕ}
-        (Asks (Fit s) 6 (Asks (s .bytes + length piece ≤ longestMessage) 4 (Asks (feed-words ≤ length ws) 5 Done)))
+        (Asks (Fit (sha1 32) s) 6 (Asks (s .bytes + length piece ≤ longestMessage) 4 (Asks (feed-words ≤ length ws) 5 Done)))
         (feeds .number) (feed (sha1 32) s piece ws 0) (s, 0) (feeds .state, feeds .drawn)
     unfolding feedCall
     feed-outcome =
-        call-settles 5 3 feed-words (feed (sha1 32) s piece) (says-fit (s .n) (s .bytes) (s .finished))
+        call-settles 5 3 feed-words (feed (sha1 32) s piece) (says-fit (sha1 32) s)
         (says-le (s .bytes + length piece) longestMessage) feed-law s ws
 
     pub feed-count : feeds .number ≡ 0 → feeds .drawn ≡ feed-words
     unfolding feedCall
     feed-count =
-        call-draws 5 3 feed-words (feed (sha1 32) s piece) (says-fit (s .n) (s .bytes) (s .finished))
+        call-draws 5 3 feed-words (feed (sha1 32) s piece) (says-fit (sha1 32) s)
         (says-le (s .bytes + length piece) longestMessage) feed-law s ws
 
     -- what is not read of the state and of the supply has no say
@@ -309,10 +309,10 @@ module _ (s : State) (whole : Whole s) (ws : List ℕ) where
     unfolding feedCall
     feed-past ok t vs alike same =
         ap (λ (o : Answer × State). streamed (o .0) (o .1))
-        (call-past 5 3 feed-words (feed (sha1 32) s piece) (says-fit (s .n) (s .bytes) (s .finished))
+        (call-past 5 3 feed-words (feed (sha1 32) s piece) (says-fit (sha1 32) s)
         (says-le (s .bytes + length piece) longestMessage) feed-law s ws ok
         (feed (sha1 32) t piece) t vs (feed-alike (sha1 32) s t alike piece vs 0) same
-        ∙ rw (alike .counts, alike .bytes-fed, alike .marks))
+        ∙ rw (alike .counts, alike .bytes-fed, alike .words-drawn, alike .marks, alike .hashes))
 
   -- ---- finish
   module _ (came : List ℕ) where
@@ -322,7 +322,7 @@ module _ (s : State) (whole : Whole s) (ws : List ℕ) where
     abbrev finish-words : ℕ
     finish-words = ((s .bytes % 64 + 8) / 64 + 2) * d (s .n)
 
-    finish-law : Fit s → length came ≡ 20 → Rule finish-words (λ t. length t ≡ 20) (finish (sha1 32) s)
+    finish-law : Fit (sha1 32) s → length came ≡ 20 → Rule finish-words (λ t. length t ≡ 20) (finish (sha1 32) s)
     finish-law fit size =
         counted
         (finish-sized (sha1 32) s (fit-some fit) (sha1-size (s .n) (fit-some fit)) refl (fit-few fit) whole
@@ -331,11 +331,11 @@ module _ (s : State) (whole : Whole s) (ws : List ℕ) where
 
     pub finish-outcome : (let made = finish (sha1 32) s ws 0 in
         Settles {A = State × List ℕ × ℕ}
-        (Asks (Fit s) 6 (Asks (length came ≡ 20) 3 (Asks (finish-words ≤ length ws) 5 Done)))
+        (Asks (Fit (sha1 32) s) 6 (Asks (length came ≡ 20) 3 (Asks (finish-words ≤ length ws) 5 Done)))
         (ends .0 .number) (closed s, made .0, made .1) (s, came, 0) (ends .0 .state, ends .1, ends .0 .drawn))
     unfolding finishCall call
     finish-outcome =
-        let o = call-settles 5 2 finish-words (finish (sha1 32) s) (says-fit (s .n) (s .bytes) (s .finished))
+        let o = call-settles 5 2 finish-words (finish (sha1 32) s) (says-fit (sha1 32) s)
         (says-eq (length came) 20) finish-law came ws in
         let made = finish (sha1 32) s ws 0 in
         settles (ends .0 .number) (closed s, made .0, made .1) (s, came, 0) _ (o .given)
@@ -344,7 +344,7 @@ module _ (s : State) (whole : Whole s) (ws : List ℕ) where
     pub finish-count : ends .0 .number ≡ 0 → ends .0 .drawn ≡ finish-words
     unfolding finishCall
     finish-count =
-        call-draws 5 2 finish-words (finish (sha1 32) s) (says-fit (s .n) (s .bytes) (s .finished))
+        call-draws 5 2 finish-words (finish (sha1 32) s) (says-fit (sha1 32) s)
         (says-eq (length came) 20) finish-law came ws
 
     pub finish-past : ends .0 .number ≡ 0 → (t : State) (vs : List ℕ) → ReadAlike (SHA1 32) s t
@@ -352,12 +352,12 @@ module _ (s : State) (whole : Whole s) (ws : List ℕ) where
         (o .1 ≡ ends .1) × (o .0 .number ≡ 0) × (o .0 .drawn ≡ ends .0 .drawn))
     unfolding finishCall
     finish-past ok t vs alike same =
-        let tests : State → List Test = λ u. test 6 (isFit u) ∷ test 3 (eqb (length came) 20) ∷ [] in
+        let tests : State → List Test = λ u. test 6 (isFit (sha1 32) u) ∷ test 3 (eqb (length came) 20) ∷ [] in
         let e : call (tests s) (finish (sha1 32) s) came ws ≡ call (tests t) (finish (sha1 32) t) came vs =
-        call-past 5 2 finish-words (finish (sha1 32) s) (says-fit (s .n) (s .bytes) (s .finished))
+        call-past 5 2 finish-words (finish (sha1 32) s) (says-fit (sha1 32) s)
         (says-eq (length came) 20) finish-law came ws ok
         (finish (sha1 32) t) came vs (finish-alike (sha1 32) s t alike vs 0) same
-        ∙ rw (alike .counts, alike .bytes-fed, alike .marks) in (
+        ∙ rw (alike .counts, alike .bytes-fed, alike .words-drawn, alike .marks, alike .hashes) in (
           sym (ap (λ (o : Answer × List ℕ). o .1) e),
           sym (ap (λ (o : Answer × List ℕ). o .0 .number) e) ∙ ok,
           sym (ap (λ (o : Answer × List ℕ). o .0 .drawn) e),

@@ -44,6 +44,15 @@ unfolding test
 holds number true h = refl
 holds number false h = absurd (omega arith)
 
+-- one more test: the number so far, or, where that is 0, what this test gives
+pub one-more : (ts : List Test) (t : Test) (number result : ℕ) → first ts ≡ number → result ≡ settled number t number
+    → first (ts ++ (t ∷ [])) ≡ result
+unfolding first
+one-more [] zero number result e f = rw (← e) at (sym f)
+one-more [] (suc m) number result e f = rw (← e) at (sym f)
+one-more (zero ∷ ts) t number result e f = one-more ts t number result e f
+one-more (suc m ∷ ts) t number result e f = rw (← e) at (sym f)
+
 -- what a test compares matters only where the tests before it were passed
 pub same-test : (ts us : List Test) (number need drawn have : ℕ) → (first ts ≡ 0 → drawn ≡ need)
     → first (ts ++ (test number (leb need have) ∷ us)) ≡ first (ts ++ (test number (leb drawn have) ∷ us))

@@ -12,11 +12,15 @@ use lib.ListN.{length, getD, take, length-take}
 use lib.Seq.{length-take-le, getD-take}
 use borrow.Author.Tests.{eqb-true, eqb-false, leb-true, leb-false, le-leb}
 use Rattle.rules.specs.declared.Answer.{Answer}
+use Rattle.rules.specs.declared.State.{State}
 use Rattle.rules.specs.Supply.{Draw, Rule, Words}
-use Rattle.rules.specs.Numbers.{longestMessage, either, both, power, allowed, fit, Test, test, first, settled}
+use Rattle.rules.specs.Numbers.{longestMessage, either, both, power, allowed, Test, test, first, settled}
 use Rattle.rules.specs.Independent.{Independent}
 use Rattle.rules.specs.Calls.{call, openCall, recordCall}
-use Rattle.rules.specs.Outcome.{Power, Allowed, None, Asks, fails, holds, Done, Given}
+use Rattle.rules.specs.Hmac.{Masked}
+use Rattle.rules.specs.Counts.{stateDraws}
+use Rattle.rules.specs.Stream.{fit, isFit}
+use Rattle.rules.specs.Outcome.{Power, Allowed, Fit, None, Asks, fails, holds, Done, Given}
 use Rattle.rules.specs.Outcome.{Settles, OnShares, Follows, Makes}
 
 -- ---- what a test says of the condition that it tests
@@ -67,12 +71,14 @@ pub says-count : (n : ℕ) → Says (Allowed n) (allowed n)
 unfolding allowed
 says-count n = says-both (says-le 1 n) (says-le n 16)
 
-pub says-fit : (n bytes finished : ℕ)
-    → Says ((finished ≡ 0) × Allowed n × (bytes ≤ longestMessage)) (fit n bytes finished)
+pub says-fit : (M : Masked) (s : State) → Says (Fit M s) (isFit M s)
 unfolding fit
-says-fit n bytes finished =
-    says-as (λ p. (p .0, p .1 .0, p .1 .1)) (λ p. (p .0, (p .1, p .2)))
-    (says-both (says-eq finished 0) (says-both (says-count n) (says-le bytes longestMessage)))
+says-fit M s =
+    says-as
+    (λ p. record { unfinished = p .0; of-hash = p .1 .0; counted = p .1 .1 .0; short = p .1 .1 .1 .0; drawn-so = p .1 .1 .1 .1 })
+    (λ f. (f .unfinished, (f .of-hash, (f .counted, (f .short, f .drawn-so)))))
+    (says-both (says-eq (s .finished) 0) (says-both (says-eq (s .hash) (M .code)) (says-both (says-count (s .n))
+    (says-both (says-le (s .bytes) longestMessage) (says-eq (s .drawn) (stateDraws M (s .n) (s .bytes)))))))
 
 pub passed : {A : Type 0} {b : Bool} → Says A b → A → b ≡ true
 passed (yes p) h = refl

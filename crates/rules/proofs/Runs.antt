@@ -77,10 +77,10 @@ module _ (M : Masked) (n : ℕ) (some : 0 < n) (keeps : Keeps M n (λ v. Unit {0
     pub outer : List ℕ
     pub waits : List ℕ
     pub made : Made M n bytes inner outer waits
-    pub is : s ≡ state n bytes inner outer waits
+    pub is : s ≡ state M n bytes inner outer waits
 
   module _ (bytes : ℕ) (inner outer waits : List ℕ) (made : Made M n bytes inner outer waits) (piece : List ℕ) where
-    after-piece : Rule (feedDraws M n bytes (length piece)) Clean (feed M (state n bytes inner outer waits) piece)
+    after-piece : Rule (feedDraws M n bytes (length piece)) Clean (feed M (state M n bytes inner outer waits) piece)
     after-piece =
         alike (made-fed M n bytes inner outer waits made piece)
         (said
@@ -102,7 +102,7 @@ module _ (M : Masked) (n : ℕ) (some : 0 < n) (keeps : Keeps M n (λ v. Unit {0
         }))
 
     -- with another after it, they are one piece
-    two-pieces : (q ws : List ℕ) (at : ℕ) → (let s = state n bytes inner outer waits in
+    two-pieces : (q ws : List ℕ) (at : ℕ) → (let s = state M n bytes inner outer waits in
         feed M s (piece ++ q) ws at ≡ (let r = feed M s piece ws at in feed M (r .0) q ws (r .1)))
     two-pieces q ws at =
         let first = waits ++ piece in
@@ -262,11 +262,11 @@ module _ {M : Masked} {n : ℕ} {Fits : ℕ → Type 0} {Good : List ℕ → ℕ
   pub record Holds (text : List ℕ) (s : State) : Type 0 where
     pub inner : List ℕ
     pub outer : List ℕ
-    pub is : s ≡ state n (length text) inner outer (drop (length text / B * B) text)
+    pub is : s ≡ state M n (length text) inner outer (drop (length text / B * B) text)
     pub inner-good : Goods Good (chainWords S) inner (innerOf text)
     pub outer-good : Goods Good (chainWords S) outer (keyed 0x5c)
 
-  pub holds-none : (s : State) (inner outer : List ℕ) → s ≡ state n 0 inner outer []
+  pub holds-none : (s : State) (inner outer : List ℕ) → s ≡ state M n 0 inner outer []
       → Goods Good (chainWords S) inner (keyed 0x36)
       → Goods Good (chainWords S) outer (keyed 0x5c) → Holds [] s
   unfolding blocksOf
@@ -274,7 +274,7 @@ module _ {M : Masked} {n : ℕ} {Fits : ℕ → Type 0} {Good : List ℕ → ℕ
       record {
         inner = inner;
         outer = outer;
-        is = is ∙ ap (state n 0 inner outer) (sym (drop-nil (0 / B * B)));
+        is = is ∙ ap (state M n 0 inner outer) (sym (drop-nil (0 / B * B)));
         inner-good = rw sixty-four gi;
         outer-good = go;
       }
@@ -343,7 +343,7 @@ module _ {M : Masked} {n : ℕ} {Fits : ℕ → Type 0} {Good : List ℕ → ℕ
           record {
             inner = f .chain;
             outer = h .outer;
-            is = reads ∙ f .is ∙ ap₂ (λ l t. state n l (f .chain) (h .outer) t)
+            is = reads ∙ f .is ∙ ap₂ (λ l t. state M n l (f .chain) (h .outer) t)
                 (sym (length-append text piece)) rest-so;
             inner-good = rw chain-so at (f .good);
             outer-good = h .outer-good;

@@ -110,7 +110,7 @@ module _ {M : Masked} {n : ℕ} {Fits : ℕ → Type 0} {Good : List ℕ → ℕ
   pub record Started (t : State) : Type 0 where
     pub inner : List ℕ
     pub outer : List ℕ
-    pub is : t ≡ state n 0 inner outer []
+    pub is : t ≡ state M n 0 inner outer []
     pub inner-good : Goods Good (chainWords K) inner
         (K .compress (K .start) (keyedWords K 0x36 KEY))
     pub outer-good : Goods Good (chainWords K) outer
@@ -122,7 +122,7 @@ module _ {M : Masked} {n : ℕ} {Fits : ℕ → Type 0} {Good : List ℕ → ℕ
       counted
       (bind (key-rule keeps proper some 0x36 (omega arith) key-good) (λ i gi.
       bind (key-rule keeps proper some 0x5c (omega arith) key-good) (λ o go.
-      give Started (state n 0 i o []) (record { inner = i; outer = o; is = refl; inner-good = gi; outer-good = go }))))
+      give Started (state M n 0 i o []) (record { inner = i; outer = o; is = refl; inner-good = gi; outer-good = go }))))
       (omega arith)
 
 -- ---- feed and finish by what they read of a state: the bytes so far, the chains in use and the bytes that wait
@@ -171,7 +171,7 @@ module _ {M : Masked} {n : ℕ} {Fits : ℕ → Type 0} {Good : List ℕ → ℕ
     -- the state after a piece
     pub record Fed (t : State) : Type 0 where
       pub chain : List ℕ
-      pub is : t ≡ state n (bytes + length piece) chain outer (drop (full * blockBytes T) text)
+      pub is : t ≡ state M n (bytes + length piece) chain outer (drop (full * blockBytes T) text)
       pub good : Goods Good (chainWords T) chain (blocksOf T full (wordsOf (T .wordBytes) (full * 16) text) I)
 
     pub fed-rule : Readable keeps text
@@ -179,7 +179,7 @@ module _ {M : Masked} {n : ℕ} {Fits : ℕ → Type 0} {Good : List ℕ → ℕ
     fed-rule u =
         counted
         (bind (full-rule keeps full text u inner-good) (λ z g.
-        give Fed (state n (bytes + length piece) z outer (drop (full * blockBytes T) text))
+        give Fed (state M n (bytes + length piece) z outer (drop (full * blockBytes T) text))
         (record { chain = z; is = refl; good = g })))
         (add-zero (full * M .draws n)
         ∙ ap (λ l. l / blockBytes T * M .draws n) (length-append waits piece ∙ ap (λ l. l + length piece) size))
@@ -219,7 +219,7 @@ module _ (M : Masked) (n bytes : ℕ) (inner outer waits : List ℕ) where
 
   module _ (made : Made) where
     abbrev s : State
-    s = state n bytes inner outer waits
+    s = state M n bytes inner outer waits
 
     pub made-inner : inUse U s (s .inner) ≡ inner
     unfolding state
@@ -244,7 +244,7 @@ module _ (M : Masked) (n bytes : ℕ) (inner outer waits : List ℕ) where
 -- ---- nothing fed leaves a state as it is
 pub nothing : (M : Masked) (n bytes : ℕ) (inner outer waits ws : List ℕ) (at : ℕ) → blockBytes (M .standard) ≡ 64
     → length waits ≡ bytes % blockBytes (M .standard)
-    → fedFrom M n bytes inner outer waits [] ws at ≡ (state n bytes inner outer waits, at)
+    → fedFrom M n bytes inner outer waits [] ws at ≡ (state M n bytes inner outer waits, at)
 unfolding fullBlocks
 nothing M n bytes inner outer waits ws at sixty-four size =
     let B = blockBytes (M .standard) in

@@ -14,15 +14,16 @@ use borrow.Author.Tests.{eqb-true, leb-true}
 use Rattle.rules.specs.declared.Answer.{Answer}
 use Rattle.rules.specs.declared.Chain.{Chain}
 use Rattle.rules.specs.Supply.{Draw, Rule, split}
-use Rattle.rules.specs.Numbers.{largest, longestKey, longestMessage, both, power, allowed, fit, Test, test, first}
+use Rattle.rules.specs.Numbers.{largest, longestKey, longestMessage, both, power, allowed, Test, test, first}
 use Rattle.rules.specs.Shares.{refresh, expand, and, add}
 use Rattle.rules.specs.Convert.{toBool, toArith}
 use Rattle.rules.specs.Short.{toArithShort}
 use Rattle.rules.specs.Counts.{refreshDraws, andDraws, addDraws, toBoolDraws, toArithDraws, shortDraws}
 use Rattle.rules.specs.Counts.{compressDraws, keyDraws, hmacDraws, sha1}
 use Rattle.rules.specs.Sha1.{compress, chainRoom, used, chainOf}
-use Rattle.rules.specs.Hmac.{splitKey, hmacTag}
+use Rattle.rules.specs.Hmac.{Masked, splitKey, hmacTag}
 use Rattle.rules.specs.Calls.{oneTests, twoTests, openCall, query, compressCall}
+use Rattle.rules.specs.Stream.{fit}
 use Rattle.rules.proofs.Openings.{opened-lt}
 use Rattle.rules.proofs.Pairs.{refresh-rule, and-rule}
 use Rattle.rules.proofs.Addition.{add-loop-rule, expand-rule, split-rule}
@@ -128,22 +129,24 @@ module _ {n have number : ℕ} {q : Answer} where
         (eqb-true x (16 * n) (holds _ _ (p .1 .0)), holds _ _ (p .1 .1 .0), short, room)
 
 -- ---- streaming: a state that is fit, and a piece that does not pass the limit
-pub fits : (n bytes finished : ℕ) → fit n bytes finished ≡ true → (allowed n ≡ true) × (bytes ≤ longestMessage)
-unfolding fit
-fits n bytes finished h =
-    let rest = both-true _ _ (both-true (eqb finished 0) _ h .1) in
-    (rest .0, leb-true bytes longestMessage (rest .1))
+module _ (M : Masked) (n bytes drawn finished hash : ℕ) where
+  pub fits : fit M n bytes drawn finished hash ≡ true → (allowed n ≡ true) × (bytes ≤ longestMessage)
+  unfolding fit
+  fits h =
+      let own = both-true (eqb finished 0) _ h .1 in
+      let rest = both-true (eqb hash (M .code)) _ own .1 in
+      let text = both-true (allowed n) _ rest in
+      (text .0, leb-true bytes longestMessage (both-true (leb bytes longestMessage) _ (text .1) .0))
 
-pub fit-ready : (n bytes finished : ℕ) → first (test 6 (fit n bytes finished) ∷ []) ≡ 0
-    → (allowed n ≡ true) × (bytes ≤ longestMessage)
-fit-ready n bytes finished h = fits n bytes finished (holds _ _ (passed _ h .0))
+  module _ (taken : Bool) (is : taken ≡ fit M n bytes drawn finished hash) where
+    pub fit-ready : first (test 6 taken ∷ []) ≡ 0 → (allowed n ≡ true) × (bytes ≤ longestMessage)
+    fit-ready h = fits (sym is ∙ holds _ _ (passed _ h .0))
 
-pub piece-ready : (n bytes finished all : ℕ)
-    → first (test 6 (fit n bytes finished) ∷ test 4 (leb all longestMessage) ∷ []) ≡ 0
-    → (allowed n ≡ true) × (all ≤ longestMessage)
-piece-ready n bytes finished all h =
-    let p = passed _ h in
-    (fits n bytes finished (holds _ _ (p .0)) .0, leb-true all longestMessage (holds _ _ (p .1 .0)))
+    pub piece-ready : (all : ℕ) → first (test 6 taken ∷ test 4 (leb all longestMessage) ∷ []) ≡ 0
+        → (allowed n ≡ true) × (all ≤ longestMessage)
+    piece-ready all h =
+        let p = passed _ h in
+        (fits (sym is ∙ holds _ _ (p .0)) .0, leb-true all longestMessage (holds _ _ (p .1 .0)))
 
 pub key-fits : (n l : ℕ) → first (test 1 (allowed n) ∷ test 4 (leb l longestKey) ∷ []) ≡ 0
     → (allowed n ≡ true) × (l ≤ longestKey)

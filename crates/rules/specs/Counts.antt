@@ -97,10 +97,15 @@ finishDraws M n bytes =
     let block = blockBytes (M .standard) in
     ((bytes % block + M .standard .lengthBytes) / block + 2) * M .draws n
 
+-- request (xii): the count that a state carries, once so many bytes were fed: the words of its start, and of one feed of
+-- all of them
+unfoldable pub stateDraws : Masked → Count → ℕ → ℕ
+stateDraws M n bytes = startDraws M n + feedDraws M n 0 bytes
+
 -- ---- SHA-1 in shares is a hash in shares, with any addition, of so many ANDs; the calls take that of section 5
 abbrev pub sha1By : Width → Adder → ℕ → Masked
 sha1By k adder ands =
-    record { standard = SHA1 k; compress = compress k adder; draws = λ n. compressAnds ands * andDraws n }
+    record { standard = SHA1 k; code = 0; compress = compress k adder; draws = λ n. compressAnds ands * andDraws n }
 
 abbrev pub sha1 : Width → Masked
 sha1 k = sha1By k (add k) k

@@ -13,9 +13,11 @@ use Rattle.rules.specs.Hash.{padding, ending}
 use Rattle.rules.specs.Hash.{filled}
 use Rattle.rules.specs.Sha1.{publics, openWords}
 
--- A hash in shares: the standard's, its compression of a block of 16 words into a chain, and how many words that draws
+-- A hash in shares: the standard's, its code in a state, its compression of a block of 16 words into a chain, and how
+-- many words that draws
 pub record Masked : Type 0 where
   pub standard : Hash
+  pub code : ℕ
   pub compress : Count → Sharing → Sharing → Draw Sharing
   pub draws : Count → ℕ
 

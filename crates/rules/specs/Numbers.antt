@@ -35,10 +35,6 @@ power n = either (eqb n 1) (either (eqb n 2) (either (eqb n 4) (eqb n 8)))
 unfoldable pub allowed : ℕ → Bool
 allowed n = both (leb 1 n) (leb n largest)
 
--- a state that feed and finish take, else number 6: not after finish, of an allowed share count, and not past the limit
-unfoldable pub fit : ℕ → ℕ → ℕ → Bool
-fit n bytes finished = both (eqb finished 0) (both (allowed n) (leb bytes longestMessage))
-
 -- what there is afterwards: at number 0 what was done, else what a refusal leaves
 abbrev pub settled : {A : Type 0} → ℕ → A → A → A
 settled zero done refused = done

@@ -9,6 +9,8 @@ use Rattle.rules.specs.declared.State.{State}
 use Rattle.rules.specs.Supply.{Draw, Words}
 use Rattle.rules.specs.Numbers.{longestMessage}
 use Rattle.rules.specs.Sha1.{chainRoom}
+use Rattle.rules.specs.Hmac.{Masked}
+use Rattle.rules.specs.Counts.{stateDraws}
 
 -- the share counts of the short conversion, and of all other calls
 abbrev pub Power : ℕ → Type 0
@@ -18,8 +20,12 @@ abbrev pub Allowed : ℕ → Type 0
 Allowed n = (1 ≤ n) × (n ≤ 16)
 
 -- a state that feed and finish take; and the sizes that a state has by its type
-abbrev pub Fit : State → Type 0
-Fit s = (s .finished ≡ 0) × Allowed (s .n) × (s .bytes ≤ longestMessage)
+pub record Fit (M : Masked) (s : State) : Type 0 where
+  pub unfinished : s .finished ≡ 0
+  pub of-hash : s .hash ≡ M .code
+  pub counted : Allowed (s .n)
+  pub short : s .bytes ≤ longestMessage
+  pub drawn-so : s .drawn ≡ stateDraws M (s .n) (s .bytes)
 
 pub record Whole (s : State) : Type 0 where
   pub inner-whole : length (s .inner .shares) ≡ chainRoom

@@ -13,11 +13,11 @@ use Rattle.rules.specs.declared.Streamed.{Streamed}
 use Rattle.rules.specs.declared.Fed.{Fed}
 use Rattle.rules.specs.declared.Fed.the-variants.{Taken, Refused}
 use Rattle.rules.specs.Supply.{Draw, Count, Supply, Sharing}
-use Rattle.rules.specs.Numbers.{longestMessage, allowed, fit, test, settled}
+use Rattle.rules.specs.Numbers.{longestMessage, both, allowed, test, settled}
 use Rattle.rules.specs.Hash.{Bytes, Hash, blockBytes, chainWords, digestBytes, wordsOf, filled}
 use Rattle.rules.specs.Sha1.{publics, chainRoom}
 use Rattle.rules.specs.Hmac.{Masked, keyStep, textStep, digestStep, tagOf}
-use Rattle.rules.specs.Counts.{startDraws, feedDraws, finishDraws}
+use Rattle.rules.specs.Counts.{startDraws, feedDraws, finishDraws, stateDraws}
 use Rattle.rules.specs.Calls.{call, query}
 
 -- ---- the state
@@ -32,22 +32,32 @@ waiting H s = take (s .bytes % blockBytes H) (s .tail)
 pub record ReadAlike (H : Hash) (s t : State) : Type 0 where
   pub counts : s .n ≡ t .n
   pub bytes-fed : s .bytes ≡ t .bytes
+  pub words-drawn : s .drawn ≡ t .drawn
   pub marks : s .finished ≡ t .finished
+  pub hashes : s .hash ≡ t .hash
   pub inners : inUse H s (s .inner) ≡ inUse H t (t .inner)
   pub outers : inUse H s (s .outer) ≡ inUse H t (t .outer)
   pub tails : waiting H s ≡ waiting H t
 
--- a state made anew: unused words of both chains and unfilled bytes of the tail are 0
-unfoldable pub state : Count → ℕ → Sharing → Sharing → Bytes → State
-state n bytes inner outer tail =
+-- a state made anew: its count is that of its bytes; unused words of both chains and unfilled bytes of the tail are 0
+unfoldable pub state : Masked → Count → ℕ → Sharing → Sharing → Bytes → State
+state M n bytes inner outer tail =
     record {
       n = n;
       bytes = bytes;
+      drawn = stateDraws M n bytes;
       finished = 0;
+      hash = M .code;
       inner = record { shares = filled chainRoom inner };
       outer = record { shares = filled chainRoom outer };
       tail = filled 64 tail;
     }
+
+-- a state of zeros
+unfoldable pub stateOfZeros : State
+stateOfZeros =
+    let none : Chain = record { shares = filled chainRoom [] } in
+    record { n = 0; bytes = 0; drawn = 0; finished = 0; hash = 0; inner = none; outer = none; tail = filled 64 [] }
 
 -- ---- the rules
 -- start: the inner key block, then the outer one
@@ -55,7 +65,7 @@ unfoldable pub start : Masked → Count → Sharing → Draw State
 start M n key ws at =
     let i = keyStep M n 0x36 key ws at in
     let o = keyStep M n 0x5c key ws (i .1) in
-    (state n 0 (i .0) (o .0) [], o .1)
+    (state M n 0 (i .0) (o .0) [], o .1)
 
 -- feed: the bytes that wait and then the piece; every block that becomes full is compressed at once, in order; the rest
 -- waits
@@ -72,7 +82,7 @@ fedFrom M n bytes inner outer waits piece ws at =
     let text = waits ++ piece in
     let full = length text / B in
     let c = fullBlocks M n full text inner ws at in
-    (state n (bytes + length piece) (c .0) outer (drop (full * B) text), c .1)
+    (state M n (bytes + length piece) (c .0) outer (drop (full * B) text), c .1)
 
 unfoldable pub feed : Masked → State → Bytes → Draw State
 feed M s =
@@ -94,8 +104,15 @@ finish M s =
     finishedFrom M (s .n) (s .bytes) (inUse H s (s .inner)) (inUse H s (s .outer)) (waiting H s)
 
 -- ---- the calls
-abbrev pub isFit : State → Bool
-isFit s = fit (s .n) (s .bytes) (s .finished)
+-- number 6: a state is taken that is not finished, of this hash and an allowed share count, not past the limit, and
+-- whose count is that of its bytes
+unfoldable pub fit : Masked → Count → ℕ → ℕ → ℕ → ℕ → Bool
+fit M n bytes drawn finished hash =
+    both (eqb finished 0) (both (eqb hash (M .code))
+    (both (allowed n) (both (leb bytes longestMessage) (eqb drawn (stateDraws M n bytes)))))
+
+abbrev pub isFit : Masked → State → Bool
+isFit M s = fit M (s .n) (s .bytes) (s .drawn) (s .finished) (s .hash)
 
 abbrev pub streamed : Answer → State → Streamed
 streamed answer s = record { number = answer .number; drawn = answer .drawn; state = s }
@@ -104,13 +121,13 @@ streamed answer s = record { number = answer .number; drawn = answer .drawn; sta
 unfoldable pub startCall : Masked → Count → Sharing → Supply → Streamed
 startCall M n key ws =
     let o = call (test 1 (allowed n) ∷ test 2 (eqb (length key) (16 * n)) ∷ []) (start M n key)
-    (state 0 0 [] [] []) ws in
+    stateOfZeros ws in
     streamed (o .0) (o .1)
 
 -- a refused piece hands back the state; the limit counts all pieces
 unfoldable pub feedCall : Masked → State → Bytes → Supply → Streamed
 feedCall M s piece ws =
-    let o = call (test 6 (isFit s) ∷ test 4 (leb (s .bytes + length piece) longestMessage) ∷ [])
+    let o = call (test 6 (isFit M s) ∷ test 4 (leb (s .bytes + length piece) longestMessage) ∷ [])
     (feed M s piece) s ws in
     streamed (o .0) (o .1)
 
@@ -122,11 +139,20 @@ fedAnswer (Refused number) = record { number = number; drawn = 0 }
 -- an accepted finish only sets the finished mark; a refused one hands back the state
 abbrev pub closed : State → State
 closed s =
-    record { n = s .n; bytes = s .bytes; finished = 1; inner = s .inner; outer = s .outer; tail = s .tail }
+    record {
+      n = s .n;
+      bytes = s .bytes;
+      drawn = s .drawn;
+      finished = 1;
+      hash = s .hash;
+      inner = s .inner;
+      outer = s .outer;
+      tail = s .tail;
+    }
 
 unfoldable pub finishCall : Masked → State → Bytes → Supply → Streamed × Bytes
 finishCall M s came ws =
-    let tests = test 6 (isFit s) ∷ test 3 (eqb (length came) (digestBytes (M .standard))) ∷ [] in
+    let tests = test 6 (isFit M s) ∷ test 3 (eqb (length came) (digestBytes (M .standard))) ∷ [] in
     let o = call tests (finish M s) came ws in
     (streamed (o .0) (settled (o .0 .number) (closed s) s), o .1)
 
@@ -136,10 +162,10 @@ startWords M n = query (test 1 (allowed n) ∷ []) (startDraws M n)
 
 abbrev pub feedWords : Masked → State → ℕ → Answer
 feedWords M s l =
-    query (test 6 (isFit s) ∷ test 4 (leb (s .bytes + l) longestMessage) ∷ []) (feedDraws M (s .n) (s .bytes) l)
+    query (test 6 (isFit M s) ∷ test 4 (leb (s .bytes + l) longestMessage) ∷ []) (feedDraws M (s .n) (s .bytes) l)
 
 abbrev pub finishWords : Masked → State → Answer
-finishWords M s = query (test 6 (isFit s) ∷ []) (finishDraws M (s .n) (s .bytes))
+finishWords M s = query (test 6 (isFit M s) ∷ []) (finishDraws M (s .n) (s .bytes))
 
 -- ---- what is said of a run: pieces fed one after the other, each with words of its own
 abbrev pub Feeds : Type 0
@@ -163,3 +189,14 @@ drawn M s (f ∷ fs) = let o = feedCall M s (f .0) (f .1) in take (o .drawn) (f 
 unfoldable pub Accepted : Masked → State → Feeds → Type 0
 Accepted M s [] = Unit {0}
 Accepted M s (f ∷ fs) = let o = feedCall M s (f .0) (f .1) in (o .number ≡ 0) × Accepted M (o .state) fs
+
+-- any run of calls from an accepted start, each on a state that one before it handed back, accepted or refused: how many
+-- bytes were taken until then, how many words start and feeds drew, and the state
+pub data Reached (M : Masked) (n : Count) : ℕ → ℕ → State → Type 0 where
+  starts : (key : Sharing) (ws : Supply) {r : Streamed} → startCall M n key ws ≡ r → r .number ≡ 0
+      → Reached M n 0 (r .drawn) (r .state)
+  feeds : (piece : Bytes) (ws : Supply) {bytes words : ℕ} {s : State} {r : Streamed} → Reached M n bytes words s
+      → feedCall M s piece ws ≡ r
+      → Reached M n (bytes + settled (r .number) (length piece) 0) (words + r .drawn) (r .state)
+  finishes : (came tag : Bytes) (ws : Supply) {bytes words : ℕ} {s : State} {r : Streamed} → Reached M n bytes words s
+      → finishCall M s came ws ≡ (r, tag) → Reached M n bytes words (r .state)

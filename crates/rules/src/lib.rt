@@ -60,14 +60,19 @@ pub struct Compressed {
     pub chain: Chain,
 }
 
-// What is carried from piece to piece of a message: the share count, how many bytes were fed so far, a mark that is not
-// 0 once the tag was handed out, the chains after the inner and after the outer key block, and the bytes of the block
-// that is not yet full, the first `bytes` mod 64 of `tail`.
+// The codes of the hashes, as a state carries them.
+pub const SHA1: u32 = 0;
+
+// What is carried from piece to piece of a message: the share count, how many bytes were fed so far, how many words
+// start and feeds drew for them, a mark that is not 0 once the tag was handed out, the hash, the chains after the inner
+// and after the outer key block, and the bytes of the block that is not yet full, the first `bytes` mod 64 of `tail`.
 #[repr(C)]
 pub struct State {
     pub n: usize,
     pub bytes: usize,
+    pub drawn: usize,
     pub finished: u32,
+    pub hash: u32,
     pub inner: Chain,
     pub outer: Chain,
     pub tail: [u8; BLOCK_BYTES],
