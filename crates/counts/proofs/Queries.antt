@@ -10,11 +10,12 @@ use lib.ListN.{getD}
 use borrow.Author.Tests.{eqb-true, leb-true}
 use Rattle.width.specs.Width.{bits}
 use Rattle.rules.specs.declared.Answer.{Answer}
-use Rattle.rules.specs.Numbers.{largest, longestKey, choose, either, power, allowed, Test, test, first}
+use Rattle.rules.specs.Numbers.{largest, longestKey, longestMessage, choose, either, power, allowed, Test, test, first}
 use Rattle.rules.specs.Numbers.{both, settled, told}
 use Rattle.rules.specs.Counts.{andDraws, refreshDraws, addDraws, toBoolDrawsIn, toBoolDraws, toArithDraws}
-use Rattle.rules.specs.Counts.{compressDraws, keyDraws, sha1}
+use Rattle.rules.specs.Counts.{compressDraws, keyDraws, stateDraws, sha1}
 use Rattle.rules.specs.Calls.{query}
+use Rattle.rules.specs.Stream.{fit}
 use Rattle.rules.proofs.Calls.{settled-refused, tells}
 use Rattle.rules.proofs.Sizes.{compress-count}
 use Rattle.rules.proofs.Keys.{short-draws, long-draws}
@@ -74,6 +75,16 @@ query-refused tests d number e h = rw (e, settled-refused number d 0 h)
 pub query-done : (tests : List Test) (d number drawn : ℕ) → first tests ≡ number → number ≡ 0 → drawn ≡ d
     → query tests d ≡ record { number = 0; drawn = drawn }
 query-done tests d number drawn e h f = rw (e, h, f)
+
+-- the same where the first test is whether a state is fit
+module _ {fits asked : Bool} (is : fits ≡ asked) (rest : List Test) (d : ℕ) {number : ℕ}
+    (e : first (test 6 fits ∷ rest) ≡ number) where
+  pub state-refused : (number ≡ 0 → ⊥) → query (test 6 asked ∷ rest) d ≡ record { number = number; drawn = 0 }
+  state-refused h = query-refused (test 6 asked ∷ rest) d number (rw is at e) h
+
+  pub state-done : {drawn : ℕ} → number ≡ 0 → drawn ≡ d
+      → query (test 6 asked ∷ rest) d ≡ record { number = 0; drawn = drawn }
+  state-done {drawn} h f = query-done (test 6 asked ∷ rest) d number drawn (rw is at e) h f
 
 -- ---- by the share count: what the rule draws at the count m that is taken
 by-count : (d : ℕ → ℕ) (n : ℕ) → d 1 ≡ 0
@@ -175,6 +186,24 @@ module _ (n : ℕ) (each : Answer) (e : query (test 1 (allowed n) ∷ []) (compr
   -- so many of them fit into 64 bits
   pub compressions-fit : (m : ℕ) → m ≤ 1028 → m * each .drawn < 2 ^ 64
   compressions-fit m h = omega (arith, mul-le-mul h compress-below)
+
+-- ---- a state, first by its share count and its bytes
+module _ (n bytes drawn finished hash : ℕ) {inside : Bool}
+    (is : inside ≡ both (allowed n) (leb bytes longestMessage)) where
+  pub inside-ready : inside ≡ true → (0 < n) × (n ≤ largest) × (bytes ≤ longestMessage)
+  inside-ready h =
+      let p = both-true (allowed n) (leb bytes longestMessage) (sym is ∙ h) in
+      let count = within n (p .0) in
+      (count .0, count .1, leb-true bytes longestMessage (p .1))
+
+  pub outside-unfit : inside ≡ false → false ≡ fit (sha1 32) n bytes drawn finished hash
+  unfolding fit
+  outside-unfit h = rw (sym is ∙ h)
+
+  pub inside-fit : inside ≡ true → {count : ℕ} → count ≡ stateDraws (sha1 32) n bytes
+      → both (eqb finished 0) (both (eqb hash 0) (eqb drawn count)) ≡ fit (sha1 32) n bytes drawn finished hash
+  unfolding fit
+  inside-fit h e = rw (sym is ∙ h, e)
 
 -- ---- splitting a key of l bytes, with n shares
 module _ (n l : ℕ) (count : allowed n ≡ true) (short : l ≤ longestKey) where

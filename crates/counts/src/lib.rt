@@ -6,17 +6,19 @@ ghost use mathlib.Core.List.{[], _∷_};
 ghost use Prim.Native.Nat.{_+_, _-_, _*_, _≤_, _<_};
 ghost use lib.Dec.{leb};
 ghost use Rattle.width.specs.Width.{bits};
-ghost use Rattle.rules.specs.Numbers.{largest, longestKey, longestMessage, choose, power, allowed, fit, test, first};
+ghost use Rattle.rules.specs.Numbers.{largest, longestKey, longestMessage, choose, power, allowed, test, first};
 ghost use Rattle.rules.specs.Standard.{SHA1};
 ghost use Rattle.rules.specs.Counts.{refreshDraws, andDraws, addDraws, toBoolDraws, toArithDraws, shortDraws};
 ghost use Rattle.rules.specs.Counts.{compressDraws, compressions, keyDraws, hmacDraws, startDraws, feedDraws};
-ghost use Rattle.rules.specs.Counts.{finishDraws, sha1};
+ghost use Rattle.rules.specs.Counts.{finishDraws, stateDraws, sha1};
 ghost use Rattle.rules.specs.Calls.{query};
+ghost use Rattle.rules.specs.Stream.{fit};
 ghost use Rattle.counts.specs.Queries.{taken, byText};
 use numbers::DONE;
 use numbers::TOO_LONG;
 use numbers::WRONG_COUNT;
 use numbers::answer;
+use numbers::both;
 use numbers::fitness;
 use numbers::growth;
 use numbers::is_allowed;
@@ -28,6 +30,7 @@ use rules::BLOCK_BYTES;
 use rules::BLOCK_WORDS;
 use rules::LENGTH_BYTES;
 use rules::LONGEST_MESSAGE;
+use rules::SHA1;
 use rules::WORD_BYTES;
 use width::BITS;
 
@@ -229,12 +232,40 @@ pub fn key_words(n: usize, key: usize) -> Answer
     answer(DONE, key_draws(n, key))
 }
 
-// The blocks that a piece of so many bytes fills.
-pub fn feed_words(n: usize, bytes: usize, finished: u32, piece: usize) -> Answer
-    ensures { λ r. ⌜ query (test 6 (fit n bytes finished) ∷ test 4 (leb (bytes + piece) longestMessage) ∷ [])
-        (feedDraws (sha1 32) n bytes piece) ≡ r ⌝ }
+// The count that a state carries once so many bytes were fed: start's words, and those of the blocks that they filled.
+pub fn state_words(n: usize, bytes: usize) -> usize
+    requires { ⌜ (0 < n) × (n ≤ largest) × (bytes ≤ longestMessage) ⌝ }
+    ensures { λ r. ⌜ r ≡ stateDraws (sha1 32) n bytes ⌝ }
 {
-    let number = growth(n, bytes, finished, piece);
+    compressions_words(2 + bytes / BLOCK_BYTES, n)
+}
+
+// A state that feed and finish take, by its counts, its mark and its hash.
+fn is_fit(n: usize, bytes: usize, drawn: usize, finished: u32, hash: u32) -> bool
+    ensures { λ r. ⌜ r ≡ fit (sha1 32) n bytes drawn finished hash ⌝ }
+{
+    if both(is_allowed(n), bytes <= LONGEST_MESSAGE) {
+        return both(
+            finished == 0,
+            both(hash == SHA1, drawn == state_words(n, bytes)),
+        );
+    }
+    false
+}
+
+// The blocks that a piece of so many bytes fills.
+pub fn feed_words(
+    n: usize,
+    bytes: usize,
+    drawn: usize,
+    finished: u32,
+    hash: u32,
+    piece: usize,
+) -> Answer
+    ensures { λ r. ⌜ query (test 6 (fit (sha1 32) n bytes drawn finished hash)
+        ∷ test 4 (leb (bytes + piece) longestMessage) ∷ []) (feedDraws (sha1 32) n bytes piece) ≡ r ⌝ }
+{
+    let number = growth(is_fit(n, bytes, drawn, finished, hash), bytes, piece);
     if number != DONE {
         return answer(number, 0);
     }
@@ -243,10 +274,10 @@ pub fn feed_words(n: usize, bytes: usize, finished: u32, piece: usize) -> Answer
 }
 
 // The last blocks of the message, and the digest block.
-pub fn finish_words(n: usize, bytes: usize, finished: u32) -> Answer
-    ensures { λ r. ⌜ query (test 6 (fit n bytes finished) ∷ []) (finishDraws (sha1 32) n bytes) ≡ r ⌝ }
+pub fn finish_words(n: usize, bytes: usize, drawn: usize, finished: u32, hash: u32) -> Answer
+    ensures { λ r. ⌜ query (test 6 (fit (sha1 32) n bytes drawn finished hash) ∷ []) (finishDraws (sha1 32) n bytes) ≡ r ⌝ }
 {
-    let number = fitness(n, bytes, finished);
+    let number = fitness(is_fit(n, bytes, drawn, finished, hash));
     if number != DONE {
         return answer(number, 0);
     }

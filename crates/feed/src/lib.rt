@@ -135,11 +135,15 @@ pub fn feed(state: State, piece: &[u8], words: &[u32]) -> Feeding
     ensures { λ r. ⌜ feedCall hash state (now (piece .entry)) (now (words .entry))
         ≡ streamed (fedAnswer (r .fed)) (r .state) ⌝ }
 {
-    let n = state.n;
-    let bytes = state.bytes;
-    let mark = state.finished;
-    let need = counts::feed_words(n, bytes, mark, piece.len()).drawn;
-    let number = numbers::feeding(n, bytes, mark, piece.len(), need, words.len());
+    let need = counts::feed_words(
+        state.n,
+        state.bytes,
+        state.drawn,
+        state.finished,
+        state.hash,
+        piece.len(),
+    );
+    let number = numbers::feeding(need, words.len());
     if number != DONE {
         return Feeding {
             fed: Fed::Refused(number),

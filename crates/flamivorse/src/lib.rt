@@ -356,11 +356,14 @@ pub extern "C" fn flamivorse_hmac_sha1_finish(
 ) -> Streamed
     ensures { λ r. ⌜ finishCall (sha1 32) state (now (tag .entry)) (now (words .entry)) ≡ (r, now (tag .exit)) ⌝ }
 {
-    let n = state.n;
-    let bytes = state.bytes;
-    let mark = state.finished;
-    let need = finish_words(n, bytes, mark).drawn;
-    let number = finishing(n, bytes, mark, tag.len(), need, words.len());
+    let need = finish_words(
+        state.n,
+        state.bytes,
+        state.drawn,
+        state.finished,
+        state.hash,
+    );
+    let number = finishing(need, tag.len(), words.len());
     if number != DONE {
         return streamed(number, 0, state);
     }
@@ -458,12 +461,25 @@ pub extern "C" fn flamivorse_hmac_sha1_start_words(n: usize) -> Answer
 pub extern "C" fn flamivorse_hmac_sha1_feed_words(state: State, length: usize) -> Answer
     ensures { λ r. ⌜ feedWords (sha1 32) state length ≡ r ⌝ }
 {
-    feed_words(state.n, state.bytes, state.finished, length)
+    feed_words(
+        state.n,
+        state.bytes,
+        state.drawn,
+        state.finished,
+        state.hash,
+        length,
+    )
 }
 
 #[no_mangle]
 pub extern "C" fn flamivorse_hmac_sha1_finish_words(state: State) -> Answer
     ensures { λ r. ⌜ finishWords (sha1 32) state ≡ r ⌝ }
 {
-    finish_words(state.n, state.bytes, state.finished)
+    finish_words(
+        state.n,
+        state.bytes,
+        state.drawn,
+        state.finished,
+        state.hash,
+    )
 }

@@ -24,14 +24,6 @@ first-from (suc t ∷ ts) = sym (stays t ts)
     stays number [] = refl
     stays number (t ∷ ts) = stays number ts
 
-pub one-more : (ts : List Test) (t : Test) (number result : ℕ) → first ts ≡ number → result ≡ after number t
-    → first (ts ++ (t ∷ [])) ≡ result
-unfolding first
-one-more [] zero number result e f = rw (← e) at (sym f)
-one-more [] (suc m) number result e f = rw (← e) at (sym f)
-one-more (zero ∷ ts) t number result e f = one-more ts t number result e f
-one-more (suc m ∷ ts) t number result e f = rw (← e) at (sym f)
-
 -- ---- a message that grows
 pub not-grown : (bytes piece longest : ℕ) → longest < bytes → false ≡ leb (bytes + piece) longest
 not-grown bytes piece longest h = sym (lt-leb (bytes + piece) longest (omega arith))

@@ -5,7 +5,7 @@ use mathlib.Core.Bool.{Bool, true, false}
 use native.Mathlib.Omega.{arith}
 use lib.Bits.{bitAnd}
 use lib.Dec.{eqb, leb}
-use borrow.Author.Tests.{eqb-true, leb-true, leb-false}
+use borrow.Author.Tests.{eqb-true, leb-true, leb-false, le-leb}
 use Rattle.rules.specs.Numbers.{largest, either, both, power, allowed}
 use Rattle.rules.specs.Convert.{powerTo, powerOfTwo}
 
@@ -49,6 +49,10 @@ some n h = within n h .0
 
 pub few : (n : ℕ) → allowed n ≡ true → n ≤ largest
 few n h = within n h .1
+
+pub in-bounds : (n : ℕ) → 0 < n → n ≤ largest → allowed n ≡ true
+unfolding allowed
+in-bounds n h l = rw (le-leb 1 n (omega arith), le-leb n largest l)
 
 -- ---- what is tested of every count up to m holds of each
 abbrev pub every : (ℕ → Bool) → ℕ → Bool

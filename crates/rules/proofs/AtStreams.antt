@@ -270,10 +270,10 @@ module _ (n : ℕ) (key ws : List ℕ) where
 
 module _ (s : State) (whole : Whole s) (ws : List ℕ) where
   fit-some : Fit (sha1 32) s → 0 < s .n
-  fit-some fit = fit .counted .0
+  fit-some fit = fit .allowed-shares .0
 
   fit-few : Fit (sha1 32) s → 5 * s .n ≤ chainRoom
-  fit-few fit = omega (arith, fit .counted .1)
+  fit-few fit = omega (arith, fit .allowed-shares .1)
 
   -- ---- feed
   module _ (piece : List ℕ) where

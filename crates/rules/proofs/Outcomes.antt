@@ -75,10 +75,17 @@ pub says-fit : (M : Masked) (s : State) → Says (Fit M s) (isFit M s)
 unfolding fit
 says-fit M s =
     says-as
-    (λ p. record { unfinished = p .0; of-hash = p .1 .0; counted = p .1 .1 .0; short = p .1 .1 .1 .0; drawn-so = p .1 .1 .1 .1 })
-    (λ f. (f .unfinished, (f .of-hash, (f .counted, (f .short, f .drawn-so)))))
-    (says-both (says-eq (s .finished) 0) (says-both (says-eq (s .hash) (M .code)) (says-both (says-count (s .n))
-    (says-both (says-le (s .bytes) longestMessage) (says-eq (s .drawn) (stateDraws M (s .n) (s .bytes)))))))
+    (λ p. record {
+      allowed-shares = p .0 .0;
+      not-past = p .0 .1;
+      unfinished = p .1 .0;
+      of-hash = p .1 .1 .0;
+      drawn-so = p .1 .1 .1;
+    })
+    (λ f. ((f .allowed-shares, f .not-past), (f .unfinished, (f .of-hash, f .drawn-so))))
+    (says-both (says-both (says-count (s .n)) (says-le (s .bytes) longestMessage))
+    (says-both (says-eq (s .finished) 0)
+    (says-both (says-eq (s .hash) (M .code)) (says-eq (s .drawn) (stateDraws M (s .n) (s .bytes))))))
 
 pub passed : {A : Type 0} {b : Bool} → Says A b → A → b ≡ true
 passed (yes p) h = refl

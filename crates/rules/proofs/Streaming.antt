@@ -11,7 +11,7 @@ use Rattle.rules.specs.Supply.{Rule}
 use Rattle.rules.specs.Hash.{Hash, blockBytes, chainWords, wordsOf, ending, blocks as blocksOf}
 use Rattle.rules.specs.Sha1.{publics}
 use Rattle.rules.specs.Hmac.{Masked, digestPadding, tagOf}
-use Rattle.rules.specs.Counts.{startDraws, feedDraws, finishDraws}
+use Rattle.rules.specs.Counts.{startDraws, feedDraws, finishDraws, stateDraws}
 use Rattle.rules.specs.Stream.{inUse, waiting, ReadAlike, state, start, fedFrom, finishedFrom, fullBlocks, feed, finish}
 use Rattle.rules.proofs.Rule.{give, bind, said, counted}
 use Rattle.rules.proofs.Bytes.{length-words, words-front, words-split}
@@ -35,6 +35,14 @@ module _ (B : ℕ) (block : B ≡ 64) where
 
   tail-short : (b : ℕ) → b % B / B ≡ 0
   tail-short b = rw block (omega arith)
+
+-- ---- the count that a state carries
+pub state-count : (M : Masked) (n bytes : ℕ) → blockBytes (M .standard) ≡ 64
+    → stateDraws M n bytes ≡ (2 + bytes / 64) * M .draws n
+unfolding stateDraws
+state-count M n bytes sixty-four =
+    let whole : (0 % 64 + bytes) / 64 ≡ bytes / 64 = omega arith in
+    rw (sixty-four, whole) (sym (add-mul 2 (bytes / 64) (M .draws n)))
 
 -- ---- full blocks of a text
 module _ (M : Masked) (n : ℕ) where

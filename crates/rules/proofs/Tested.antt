@@ -133,10 +133,8 @@ module _ (M : Masked) (n bytes drawn finished hash : ℕ) where
   pub fits : fit M n bytes drawn finished hash ≡ true → (allowed n ≡ true) × (bytes ≤ longestMessage)
   unfolding fit
   fits h =
-      let own = both-true (eqb finished 0) _ h .1 in
-      let rest = both-true (eqb hash (M .code)) _ own .1 in
-      let text = both-true (allowed n) _ rest in
-      (text .0, leb-true bytes longestMessage (both-true (leb bytes longestMessage) _ (text .1) .0))
+      let inside = both-true (allowed n) _ (both-true (both (allowed n) (leb bytes longestMessage)) _ h .0) in
+      (inside .0, leb-true bytes longestMessage (inside .1))
 
   module _ (taken : Bool) (is : taken ≡ fit M n bytes drawn finished hash) where
     pub fit-ready : first (test 6 taken ∷ []) ≡ 0 → (allowed n ≡ true) × (bytes ≤ longestMessage)

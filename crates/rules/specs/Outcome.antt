@@ -21,10 +21,10 @@ Allowed n = (1 ≤ n) × (n ≤ 16)
 
 -- a state that feed and finish take; and the sizes that a state has by its type
 pub record Fit (M : Masked) (s : State) : Type 0 where
+  pub allowed-shares : Allowed (s .n)
+  pub not-past : s .bytes ≤ longestMessage
   pub unfinished : s .finished ≡ 0
   pub of-hash : s .hash ≡ M .code
-  pub counted : Allowed (s .n)
-  pub short : s .bytes ≤ longestMessage
   pub drawn-so : s .drawn ≡ stateDraws M (s .n) (s .bytes)
 
 pub record Whole (s : State) : Type 0 where

@@ -104,12 +104,12 @@ finish M s =
     finishedFrom M (s .n) (s .bytes) (inUse H s (s .inner)) (inUse H s (s .outer)) (waiting H s)
 
 -- ---- the calls
--- number 6: a state is taken that is not finished, of this hash and an allowed share count, not past the limit, and
--- whose count is that of its bytes
+-- number 6: a state is taken that has an allowed share count, is not past the limit and not finished, belongs to this
+-- hash, and whose count is that of its bytes
 unfoldable pub fit : Masked → Count → ℕ → ℕ → ℕ → ℕ → Bool
 fit M n bytes drawn finished hash =
-    both (eqb finished 0) (both (eqb hash (M .code))
-    (both (allowed n) (both (leb bytes longestMessage) (eqb drawn (stateDraws M n bytes)))))
+    both (both (allowed n) (leb bytes longestMessage))
+    (both (eqb finished 0) (both (eqb hash (M .code)) (eqb drawn (stateDraws M n bytes))))
 
 abbrev pub isFit : Masked → State → Bool
 isFit M s = fit M (s .n) (s .bytes) (s .drawn) (s .finished) (s .hash)

@@ -1,14 +1,16 @@
 // States: made anew, of zeros, and after their tag was handed out.
 ghost use mathlib.Core.Path.{_≡_};
-ghost use mathlib.Core.List.{[]};
-ghost use Prim.Native.Nat.{_≤_};
-ghost use Rattle.rules.specs.Numbers.{largest};
+ghost use Prim.Native.Nat.{_≤_, _<_};
+ghost use Rattle.rules.specs.Numbers.{largest, longestMessage};
 ghost use Rattle.rules.specs.Sha1.{chainRoom, used};
 ghost use Rattle.rules.specs.Hash.{filled};
-ghost use Rattle.rules.specs.Stream.{state, closed};
+ghost use Rattle.rules.specs.Counts.{stateDraws, sha1};
+ghost use Rattle.rules.specs.Stream.{stateOfZeros, closed};
+use counts::state_words;
 use rules::BLOCK_BYTES;
 use rules::CHAIN;
 use rules::Chain;
+use rules::SHA1;
 use rules::State;
 
 // A state made anew, of a tail that has 0 in its unfilled bytes.
@@ -19,11 +21,13 @@ pub fn state_of(
     outer: Chain,
     tail: [u8; BLOCK_BYTES],
 ) -> State
-    requires { ⌜ n ≤ largest ⌝ }
+    requires { ⌜ (0 < n) × (n ≤ largest) × (bytes ≤ longestMessage) ⌝ }
     ensures { λ r. ⌜ r ≡ record {
       n = n;
       bytes = bytes;
+      drawn = stateDraws (sha1 32) n bytes;
       finished = 0;
+      hash = sha1 32 .code;
       inner = record { shares = filled chainRoom (used n (inner .shares)) };
       outer = record { shares = filled chainRoom (used n (outer .shares)) };
       tail = tail;
@@ -32,7 +36,9 @@ pub fn state_of(
     State {
         n: n,
         bytes: bytes,
+        drawn: state_words(n, bytes),
         finished: 0,
+        hash: SHA1,
         inner: sha1::cleared(n, inner),
         outer: sha1::cleared(n, outer),
         tail: tail,
@@ -41,12 +47,21 @@ pub fn state_of(
 
 // A state of zeros, which a refused start hands back.
 pub fn zeros() -> State
-    ensures { λ r. ⌜ r ≡ state 0 0 [] [] [] ⌝ }
+    ensures { λ r. ⌜ r ≡ stateOfZeros ⌝ }
 {
     let none = Chain {
         shares: [0u32; CHAIN],
     };
-    state_of(0, 0, none, none, [0u8; BLOCK_BYTES])
+    State {
+        n: 0,
+        bytes: 0,
+        drawn: 0,
+        finished: 0,
+        hash: 0,
+        inner: none,
+        outer: none,
+        tail: [0u8; BLOCK_BYTES],
+    }
 }
 
 // A state after its tag was handed out.
@@ -59,7 +74,9 @@ pub fn finished(state: State) -> State
     State {
         n: state.n,
         bytes: state.bytes,
+        drawn: state.drawn,
         finished: 1,
+        hash: state.hash,
         inner: inner,
         outer: outer,
         tail: tail,

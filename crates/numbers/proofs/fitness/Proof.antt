@@ -5,4 +5,4 @@ use Rattle.numbers.proofs.fitness.Statement.{statement}
 use Rattle.numbers.proofs.fitness.Tie as tie
 
 pub fitness-spec : {M : Type 1} → statement M
-fitness-spec = tie.close (tie.spec (λ c κs. search needs) (λ c κs. search needs) (λ c. rw first-from (cc)))
+fitness-spec = tie.close (tie.spec (λ c κs. search needs) (λ c. rw first-from (cc)))

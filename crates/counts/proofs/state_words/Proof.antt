@@ -1,0 +1,14 @@
+-- two compressions of start, and one for each full block
+use mathlib.Core.Path.{refl, sym, _∙_}
+use native.Mathlib.Omega.{arith}
+use borrow.Author.Needs.{needs}
+use Rattle.rules.specs.Counts.{sha1}
+use Rattle.rules.proofs.Allowed.{in-bounds}
+use Rattle.rules.proofs.Streaming.{state-count}
+use Rattle.counts.proofs.state_words.Statement.{statement}
+use Rattle.counts.proofs.state_words.Tie as tie
+
+pub state-words-spec : {M : Type 1} → statement M
+state-words-spec =
+    tie.close (tie.spec (λ c. search needs) (λ c κs. (omega arith, search in-bounds))
+    (λ c. c .compressions-words .ensures ∙ sym (state-count (sha1 32) _ _ refl)))
