@@ -27,12 +27,12 @@ use Rattle.rules.specs.Standard.{SHA1, ROTL, complement, Ch, Parity, Maj, f, sc
 use Rattle.rules.specs.Sha1.{openWords, used, compress as compressShares}
 use Rattle.rules.specs.Hmac.{splitKey, hmacTag}
 use Rattle.rules.specs.Counts.{refreshDraws, addDraws, toBoolDraws, toArithDraws, shortDraws, compressDraws}
-use Rattle.rules.specs.Counts.{keyDraws, sha1}
+use Rattle.rules.specs.Counts.{keyDraws, stateDraws, sha1}
 use Rattle.rules.specs.Calls.{call, b2aTwo, a2bTwo, b2aRecordCall, a2bRecordCall, splitCall, openXorCall, openSumCall}
 use Rattle.rules.specs.Calls.{refreshCall, expandCall, andCall, addCall, a2bCall, b2aCall, b2aShortCall, splitKeyCall}
 use Rattle.rules.specs.Calls.{compressCall, hmacCall}
-use Rattle.rules.specs.Stream.{ReadAlike, state, start, feed, finish, startCall, feedCall, finishCall, closed}
-use Rattle.rules.specs.Stream.{Feeds, message, after, drawn, Accepted}
+use Rattle.rules.specs.Stream.{ReadAlike, stateOfZeros, start, feed, finish, startCall, feedCall, finishCall, closed}
+use Rattle.rules.specs.Stream.{Feeds, message, after, drawn, Accepted, Reached}
 use Rattle.rules.specs.Outcome.{Power, Allowed, Fit, Whole, None, Asks, Done, Given, Settles, Follows, Makes}
 use Rattle.rules.proofs.Outcomes.{untested, says-power, says-count, says-eq, says-le, says-two, exactly, follows, makes}
 use Rattle.rules.proofs.Outcomes.{makes-as, only, done-only, open-settles, record-settles, record-independent}
@@ -45,6 +45,9 @@ use Rattle.rules.proofs.AtCalls.{compress-outcome, compress-drawn, compress-pas
 use Rattle.rules.proofs.AtStreams.{start-outcome, start-count, start-past, feed-outcome, feed-count, feed-past}
 use Rattle.rules.proofs.AtStreams.{finish-outcome, finish-count, finish-past, sha1-cuts, sha1-words, streamed-tag}
 use Rattle.rules.proofs.AtStreams.{one-call-tag, sha1-tag}
+use Rattle.rules.proofs.Sizes.{compress-count}
+use Rattle.rules.proofs.Streaming.{state-count}
+use Rattle.rules.proofs.Reaching.{finished-count, fed-not-six, finished-not-six, sha1-counts, sha1-fit}
 use Rattle.rules.proofs.Openings.{opened-lt}
 use Rattle.rules.proofs.Addition.{add-rule, split-rule}
 use Rattle.rules.proofs.Conversion.{add-adds as add-all, refresh-refreshes, draws-one, draws-power, draws-other}
@@ -330,7 +333,7 @@ module _ (n : ℕ) (key ws : List ℕ) where
 
   pub start-settles : Settles {A = State × ℕ}
       (Asks (Allowed n) 1 (Asks (length key ≡ 16 * n) 2 (Asks (2 * (5220 * (n * (n - 1))) ≤ length ws) 5 Done)))
-      (started .number) (start (sha1 32) n key ws 0) (state 0 0 [] [] [], 0) (started .state, started .drawn)
+      (started .number) (start (sha1 32) n key ws 0) (stateOfZeros, 0) (started .state, started .drawn)
   start-settles = start-outcome n key ws
 
   pub start-draws : started .number ≡ 0 → started .drawn ≡ 2 * (5220 * (n * (n - 1)))
@@ -354,7 +357,7 @@ module _ (s : State) (whole : Whole s) (ws : List ℕ) where
     feedsDraw = (s .bytes % 64 + length piece) / 64 * (5220 * (s .n * (s .n - 1)))
 
     pub feed-settles : Settles {A = State × ℕ}
-        (Asks (Fit s) 6 (Asks (s .bytes + length piece ≤ 65536) 4 (Asks (feedsDraw ≤ length ws) 5 Done)))
+        (Asks (Fit (sha1 32) s) 6 (Asks (s .bytes + length piece ≤ 65536) 4 (Asks (feedsDraw ≤ length ws) 5 Done)))
         (fed .number) (feed (sha1 32) s piece ws 0) (s, 0) (fed .state, fed .drawn)
     feed-settles = feed-outcome s whole ws piece
 
@@ -375,7 +378,7 @@ module _ (s : State) (whole : Whole s) (ws : List ℕ) where
     -- accepted, only the finished mark is set
     pub finish-settles : (let made = finish (sha1 32) s ws 0 in
         Settles {A = State × List ℕ × ℕ}
-        (Asks (Fit s) 6 (Asks (length came ≡ 20) 3 (Asks (finishDraws ≤ length ws) 5 Done)))
+        (Asks (Fit (sha1 32) s) 6 (Asks (length came ≡ 20) 3 (Asks (finishDraws ≤ length ws) 5 Done)))
         (finished .0 .number) (closed s, made .0, made .1) (s, came, 0)
         (finished .0 .state, finished .1, finished .0 .drawn))
     finish-settles = finish-outcome s whole ws came
@@ -414,6 +417,32 @@ module _ (k : ℕ) (wide : 0 < k) (n : ℕ) (key ws : List ℕ) (accepted : star
       → startCall (sha1 k) n key ws .drawn + length (drawn (sha1 k) s₀ fs) + o .drawn
       ≡ ((length (message fs) + 8) / 64 + 4) * compressDraws k n)
   streamed-count = sha1-words k wide n key ws accepted
+
+-- What a state carries, at every width: over any run of calls from an accepted start, accepted and refused, each on a
+-- state that an earlier one handed back. Its count is the words that start and feeds drew, and those are the rules' for
+-- the bytes taken; a refused call adds to neither. So it is fit until it is finished, and 6 is never given for its count.
+module _ (k : ℕ) (wide : 0 < k) {n bytes words : ℕ} {s : State} (run : Reached (sha1 k) n bytes words s) where
+  pub reached-counts : (s .n ≡ n) × (s .bytes ≡ bytes) × (s .drawn ≡ words)
+      × (words ≡ (2 + bytes / 64) * compressDraws k n)
+  reached-counts =
+      let c = sha1-counts k wide run in
+      (c .shares, c .taken-bytes, c .drawn-words, c .by-rule ∙ state-count (sha1 k) n bytes refl)
+
+  pub reached-fit : s .finished ≡ 0 → Fit (sha1 k) s
+  reached-fit = sha1-fit k wide run
+
+  pub feed-never-six : s .finished ≡ 0 → (piece ws : List ℕ) → feedCall (sha1 k) s piece ws .number ≡ 6 → ⊥
+  feed-never-six unmarked = fed-not-six (sha1 k) s (reached-fit unmarked)
+
+  pub finish-never-six : s .finished ≡ 0 → (came ws : List ℕ) → finishCall (sha1 k) s came ws .0 .number ≡ 6 → ⊥
+  finish-never-six unmarked = finished-not-six (sha1 k) s (reached-fit unmarked)
+
+-- The count that a fit state has, in closed form; and a finish leaves it, on any state, accepted or refused.
+pub state-draws : (n bytes : ℕ) → stateDraws (sha1 32) n bytes ≡ (2 + bytes / 64) * (5220 * (n * (n - 1)))
+state-draws n bytes = state-count (sha1 32) n bytes refl ∙ ap (λ d. (2 + bytes / 64) * d) (compress-count n)
+
+pub finish-leaves-count : (s : State) (came ws : List ℕ) → finishCall (sha1 32) s came ws .0 .state .drawn ≡ s .drawn
+finish-leaves-count = finished-count (sha1 32)
 
 -- The tag: RFC 2104's of the opened key and the joined pieces, whatever the words are; so it is the one-call tag.
 module _ (n : ℕ) (key ws : List ℕ) (words : Words 32 key) (accepted : startCall (sha1 32) n key ws .number ≡ 0)

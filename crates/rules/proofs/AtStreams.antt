@@ -169,7 +169,7 @@ module _ (M : Masked) (proper : Proper (M .standard)) (chains : Chains (M .stand
       ∙ hmacOf-is H proper chains key keys m
 
 -- ==== SHA-1: runs, at any width and, opened, at 32 bits
-sizes-of : (k : ℕ) → 0 < k → (n : ℕ) → 0 < n → Keeps (sha1 k) n (λ v. Unit {0}) (Sized n)
+pub sizes-of : (k : ℕ) → 0 < k → (n : ℕ) → 0 < n → Keeps (sha1 k) n (λ v. Unit {0}) (Sized n)
 sizes-of k h n some = sha1-sizes k n some k (add k) (add-sizes k h)
 
 module _ (k : ℕ) (h : 0 < k) (n : ℕ) (key ws : List ℕ) (ok : startCall (sha1 k) n key ws .number ≡ 0) where
@@ -284,7 +284,7 @@ module _ (s : State) (whole : Whole s) (ws : List ℕ) where
     feed-words = (s .bytes % 64 + length piece) / 64 * d (s .n)
 
     feed-law : Fit (sha1 32) s → s .bytes + length piece ≤ longestMessage
-        → Rule feed-words (λ t. Unit {0}) (feed (sha1 32) s piece)
+        → Rule feed-words Whole (feed (sha1 32) s piece)
     feed-law fit short =
         counted (feed-sized (sha1 32) s (fit-some fit) (sha1-size (s .n) (fit-some fit)) refl (fit-few fit) whole piece)
         (ap (λ t. (s .bytes % 64 + length piece) / 64 * t) (compress-count (s .n)))

@@ -27,3 +27,4 @@ pub mod AtCalls
 pub mod Tested
 pub mod StreamCalls
 pub mod AtStreams
+pub mod Reaching

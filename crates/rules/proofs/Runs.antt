@@ -9,7 +9,7 @@ use lib.Seq.{getD-append-add, getD-take, length-take-le, take-at, drop-at, drop-
 use borrow.Author.Tests.{leb-true}
 use Rattle.rules.specs.declared.State.{State}
 use Rattle.rules.specs.Supply.{Rule, Agree, Words}
-use Rattle.rules.specs.Numbers.{first}
+use Rattle.rules.specs.Numbers.{longestMessage}
 use Rattle.rules.specs.Hash.{Hash, blockBytes, chainWords, wordsOf, ending, blocks as blocksOf}
 use Rattle.rules.specs.Hmac.{Masked, tagOf}
 use Rattle.rules.specs.Counts.{feedDraws, finishDraws}
@@ -55,6 +55,10 @@ module _ (M : Masked) (s : State) (p ws : List ℕ) (ok : feedCall M s p ws .num
   pub fed-enough : feed M s p ws 0 .1 ≤ length ws
   unfolding feedCall call
   fed-enough = leb-true _ _ (holds _ _ (passed _ ok .1 .1 .0))
+
+  pub fed-short : s .bytes + length p ≤ longestMessage
+  unfolding feedCall call
+  fed-short = leb-true _ _ (holds _ _ (passed _ ok .1 .0))
 
 module _ (M : Masked) (s : State) (came ws : List ℕ) (ok : finishCall M s came ws .0 .number ≡ 0) where
   pub finished-tag : finishCall M s came ws .1 ≡ finish M s ws 0 .0

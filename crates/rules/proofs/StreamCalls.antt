@@ -27,12 +27,13 @@ use Rattle.rules.specs.Outcome.{Whole}
 use Rattle.rules.proofs.Rule.{said, alike}
 use Rattle.rules.proofs.Allowed.{within}
 use Rattle.rules.proofs.Bytes.{length-allBytes}
-use Rattle.rules.proofs.Goods.{Goods, length-open}
+use Rattle.rules.proofs.Goods.{Goods, goods-size, length-open}
 use Rattle.rules.proofs.Hashes.{Proper}
 use Rattle.rules.proofs.MaskedHmac.{Keeps}
 use Rattle.rules.proofs.Sizes.{Sized, words-size, sha1-size}
 use Rattle.rules.proofs.Tags.{sha1-proper}
-use Rattle.rules.proofs.Streaming.{start-rule, feed-reads, finish-reads, fed-rule, finished-rule}
+use Rattle.rules.proofs.Streaming.{start-rule, feed-reads, finish-reads, fed-rule, finished-rule, rest-size}
+use Rattle.rules.proofs.Streaming.{made-whole}
 use Rattle.rules.proofs.Calls.{passed, holds, one-more, tells, settled-refused, refused, done}
 use Rattle.rules.proofs.Loops.{chain-length}
 use Rattle.rules.proofs.Tested.{needs, taken, fits}
@@ -52,15 +53,19 @@ module _ (M : Masked) (s : State) (some : 0 < s .n) (keeps : Keeps M (s .n) (λ 
       (length-take-le (chainWords H * s .n) (chain .shares) (omega arith))
 
   module _ (whole : Whole s) where
-    pub feed-sized : (piece : List ℕ)
-        → Rule (feedDraws M (s .n) (s .bytes) (length piece)) (λ t. Unit {0}) (feed M s piece)
+    pub feed-sized : (piece : List ℕ) → Rule (feedDraws M (s .n) (s .bytes) (length piece)) Whole (feed M s piece)
     feed-sized piece =
+        let waits = waits-size (whole .tail-whole) in
+        let outer = inUse H s (s .outer) in
         alike (feed-reads M s piece)
         (said
-        (fed-rule keeps (s .bytes) (waiting H s) (waits-size (whole .tail-whole))
-        (in-use (s .inner) (whole .inner-whole))
-        (inUse H s (s .outer)) piece (λ j i. tt))
-        refl (λ t f. tt))
+        (fed-rule keeps (s .bytes) (waiting H s) waits (in-use (s .inner) (whole .inner-whole)) outer piece (λ j i. tt))
+        refl
+        (λ t f. rw (f .is) (made-whole M (s .n) _ _ _ _ (record {
+          inner-size = goods-size (keeps .size) (f .good);
+          outer-size = goods-size (keeps .size) (in-use (s .outer) (whole .outer-whole));
+          waits-size = rest-size M (s .n) (s .bytes) [] outer (waiting H s) sixty-four waits piece;
+        }) sixty-four room)))
 
     pub finish-sized : Proper H → Rule (finishDraws M (s .n) (s .bytes)) (λ t. length t ≡ digestBytes H) (finish M s)
     finish-sized proper =

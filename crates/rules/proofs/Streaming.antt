@@ -9,14 +9,16 @@ use lib.Seq.{take-at, drop-at, drop-drop, drop-append-le}
 use Rattle.rules.specs.declared.State.{State}
 use Rattle.rules.specs.Supply.{Rule}
 use Rattle.rules.specs.Hash.{Hash, blockBytes, chainWords, wordsOf, ending, blocks as blocksOf}
-use Rattle.rules.specs.Sha1.{publics}
+use Rattle.rules.specs.Sha1.{publics, chainRoom}
 use Rattle.rules.specs.Hmac.{Masked, digestPadding, tagOf}
 use Rattle.rules.specs.Counts.{startDraws, feedDraws, finishDraws, stateDraws}
 use Rattle.rules.specs.Stream.{inUse, waiting, ReadAlike, state, start, fedFrom, finishedFrom, fullBlocks, feed, finish}
+use Rattle.rules.specs.Outcome.{Whole}
 use Rattle.rules.proofs.Rule.{give, bind, said, counted}
 use Rattle.rules.proofs.Bytes.{length-words, words-front, words-split}
 use Rattle.rules.proofs.Goods.{Goods}
 use Rattle.rules.proofs.Hashes.{Proper, keyedWords}
+use Rattle.rules.proofs.Keys.{length-filled}
 use Rattle.rules.proofs.MaskedHmac.{Keeps, publics-of, key-rule, text-rule, digest-rule}
 
 -- ---- arithmetic of blocks
@@ -43,6 +45,15 @@ unfolding stateDraws
 state-count M n bytes sixty-four =
     let whole : (0 % 64 + bytes) / 64 ≡ bytes / 64 = omega arith in
     rw (sixty-four, whole) (sym (add-mul 2 (bytes / 64) (M .draws n)))
+
+-- with a piece more
+pub state-next : (M : Masked) (n bytes l : ℕ) → blockBytes (M .standard) ≡ 64
+    → stateDraws M n bytes + feedDraws M n bytes l ≡ stateDraws M n (bytes + l)
+state-next M n bytes l sixty-four =
+    let d = M .draws n in
+    let more : 2 + bytes / 64 + (bytes % 64 + l) / 64 ≡ 2 + (bytes + l) / 64 = omega arith in
+    rw (state-count M n bytes sixty-four, state-count M n (bytes + l) sixty-four, sixty-four)
+    (sym (add-mul (2 + bytes / 64) ((bytes % 64 + l) / 64) d) ∙ ap (λ t. t * d) more)
 
 -- ---- full blocks of a text
 module _ (M : Masked) (n : ℕ) where
@@ -228,6 +239,16 @@ module _ (M : Masked) (n bytes : ℕ) (inner outer waits : List ℕ) where
   module _ (made : Made) where
     abbrev s : State
     s = state M n bytes inner outer waits
+
+    -- it has its type's sizes
+    pub made-whole : blockBytes U ≡ 64 → chainWords U * n ≤ chainRoom → Whole s
+    unfolding state
+    made-whole sixty-four room =
+        record {
+          inner-whole = length-filled chainRoom inner (omega (arith, made .inner-size));
+          outer-whole = length-filled chainRoom outer (omega (arith, made .outer-size));
+          tail-whole = length-filled 64 waits (rw (made .waits-size, sixty-four) (omega arith));
+        }
 
     pub made-inner : inUse U s (s .inner) ≡ inner
     unfolding state

@@ -54,7 +54,7 @@ state M n bytes inner outer tail =
     }
 
 -- a state of zeros
-unfoldable pub stateOfZeros : State
+abbrev pub stateOfZeros : State
 stateOfZeros =
     let none : Chain = record { shares = filled chainRoom [] } in
     record { n = 0; bytes = 0; drawn = 0; finished = 0; hash = 0; inner = none; outer = none; tail = filled 64 [] }
