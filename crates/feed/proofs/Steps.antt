@@ -14,6 +14,7 @@ use Rattle.rules.specs.Numbers.{longestMessage}
 use Rattle.rules.specs.Hash.{wordsOf, ending, filled}
 use Rattle.rules.specs.Standard.{SHA1}
 use Rattle.rules.specs.Sha1.{publics, chainRoom, used}
+use Rattle.rules.specs.Counts.{stateDraws}
 use Rattle.rules.specs.Stream.{state, fullBlocks, feed}
 use Rattle.rules.proofs.Loops.{Run}
 use Rattle.rules.proofs.Bytes.{length-words, words-front}
@@ -121,7 +122,9 @@ module _ (s : State) (piece ws tail rest : List ℕ) (at p : ℕ) (inner : Chain
       → r ≡ record {
         n = s .n;
         bytes = s .bytes + length piece;
+        drawn = stateDraws hash (s .n) (s .bytes + length piece);
         finished = 0;
+        hash = hash .code;
         inner = record { shares = filled chainRoom (used (s .n) (inner .shares)) };
         outer = record { shares = filled chainRoom (used (s .n) (s .outer .shares)) };
         tail = rest ++ drop {A = ℕ} (left - 0) (replicate 64 0);

@@ -12,6 +12,7 @@ use Rattle.rules.specs.Hash.{numberOf, allBytes, ending, filled}
 use Rattle.rules.specs.Standard.{SHA1, H0}
 use Rattle.rules.specs.Sha1.{publics, openWords, chainRoom, used}
 use Rattle.rules.specs.Hmac.{marked, blocks, digestPadding}
+use Rattle.rules.specs.Counts.{stateDraws}
 use Rattle.rules.specs.Stream.{state, start, finish}
 use Rattle.rules.proofs.Hashes.{ending-blocks}
 use Rattle.rules.proofs.Tags.{sha1-proper}
@@ -26,7 +27,9 @@ pub start-made : (n : ℕ) (key ws : List ℕ) (at p q : ℕ) (i o : Chain) (s :
     → s ≡ record {
       n = n;
       bytes = 0;
+      drawn = stateDraws hash n 0;
       finished = 0;
+      hash = hash .code;
       inner = record { shares = filled chainRoom (used n (i .shares)) };
       outer = record { shares = filled chainRoom (used n (o .shares)) };
       tail = replicate 64 0;
