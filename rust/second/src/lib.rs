@@ -5,8 +5,8 @@
 //! A call for n shares tests its arguments (section 3), works the rule out on vectors of its own
 //! (sections 2, 5 and 6, and the requests), and only then writes its output, so that a refusal
 //! leaves every output as it came. The supply itself tells when it runs out, and the count reported
-//! is the place it ended at. Only the queries use formulas. The streaming calls go the same way,
-//! with the state in place of an output.
+//! is the place it ended at. The streaming calls go the same way, with the state in place of an
+//! output. Only the queries, and the test of the count that a state carries, use formulas.
 
 #![forbid(unsafe_code)]
 #![deny(missing_docs)]
@@ -18,6 +18,8 @@ mod rules;
 mod sha1;
 #[cfg(test)]
 mod short_tests;
+#[cfg(test)]
+mod state_tests;
 mod stream;
 #[cfg(test)]
 mod stream_tests;

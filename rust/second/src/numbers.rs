@@ -1,5 +1,5 @@
-//! The numbers handed back (section 3, and number 6 of request (i)), and the records that carry
-//! them.
+//! The numbers handed back (section 3, and number 6 of requests (i) and (xii)), and the records
+//! that carry them.
 
 /// Request (vi): "Allow every share count from 1 to 16".
 const SHARE_LIMIT: usize = 16;
@@ -13,6 +13,9 @@ pub(crate) const MESSAGE_LIMIT: u64 = 65_536;
 
 /// Request (iii): "Splitting accepts up to 1,024 bytes."
 pub(crate) const KEY_LIMIT: usize = 1024;
+
+/// The code of SHA-1, the only "hash it belongs to" (request (xii)) that a state can name.
+pub(crate) const SHA_1: u32 = 0;
 
 /// What a call that takes a supply hands back, and what a query hands back.
 #[derive(Debug, Clone, Copy, PartialEq, Eq)]
@@ -65,8 +68,13 @@ pub struct State {
     pub n: usize,
     /// How many bytes of the message have been fed so far.
     pub bytes: u64,
+    /// Request (xii): "a running count of words drawn by start and feeds". A finish's words are not
+    /// in it.
+    pub drawn: u64,
     /// 0, and 1 after an accepted finish; anything but 0 counts as finished.
     pub finished: u32,
+    /// Request (xii): "the hash it belongs to", which is 0 for SHA-1.
+    pub hash: u32,
     /// The chain after the inner key block and the full blocks of the message.
     pub inner: Chain,
     /// The chain after the outer key block.
@@ -80,7 +88,9 @@ impl State {
     pub(crate) const ZEROS: State = State {
         n: 0,
         bytes: 0,
+        drawn: 0,
         finished: 0,
+        hash: 0,
         inner: Chain::ZEROS,
         outer: Chain::ZEROS,
         tail: [0; 64],
@@ -106,6 +116,29 @@ fn allowed(n: usize) -> bool {
 /// Request (vi): "(iv) keeps its four counts".
 pub(crate) fn allowed_for_short_conversion(n: usize) -> bool {
     [1, 2, 4, 8].contains(&n)
+}
+
+/// Section 6: "One compression draws 5,220·n(n−1) words."
+pub(crate) fn compression(n: u64) -> u64 {
+    5220 * n * (n - 1)
+}
+
+/// Request (xii): "the rules' draws for the bytes fed so far", which are those of start's two key
+/// blocks and of the blocks that the bytes filled.
+fn draws_so_far(n: u64, bytes: u64) -> u64 {
+    (2 + bytes / 64) * compression(n)
+}
+
+/// Whether a feed or finish takes the state. Request (i) refuses one "after finish, or on a state
+/// whose share count isn't allowed or whose byte count is past the limit"; request (xii) one "with
+/// the wrong hash" and "a state whose count differs from the rules' draws for its byte count, share
+/// count and hash". The draws are worked out only where the two counts are within their limits.
+fn is_fit(state: &State) -> bool {
+    state.finished == 0
+        && allowed(state.n)
+        && state.bytes <= MESSAGE_LIMIT
+        && state.hash == SHA_1
+        && state.drawn == draws_so_far(state.n as u64, state.bytes)
 }
 
 /// The first number that applies, or 0.
@@ -135,11 +168,10 @@ pub(crate) fn first_refusal(n: usize, tests: &[(u32, bool)]) -> u32 {
     first_that_applies(tests)
 }
 
-/// The same for a call that takes a state, where number 6 stands in place of 1: "a feed or finish
-/// after finish, or on a state whose share count isn't allowed or whose byte count is past the
-/// limit; tested before all others" (request (i)).
+/// The same for a call that takes a state, where number 6, for an unfit state, stands in place of
+/// 1: "tested before all others" (request (i)).
 pub(crate) fn first_state_refusal(state: &State, tests: &[(u32, bool)]) -> u32 {
-    if state.finished != 0 || !allowed(state.n) || state.bytes > MESSAGE_LIMIT {
+    if !is_fit(state) {
         return 6;
     }
     first_that_applies(tests)

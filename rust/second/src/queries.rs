@@ -3,8 +3,8 @@
 //! refusal 1, 4 or 6 and the count 0.
 
 use crate::numbers::{
-    allowed_for_short_conversion, first_refusal, first_state_refusal, would_pass_the_limit, Answer,
-    State, KEY_LIMIT, MESSAGE_LIMIT,
+    allowed_for_short_conversion, compression, first_refusal, first_state_refusal,
+    would_pass_the_limit, Answer, State, KEY_LIMIT, MESSAGE_LIMIT,
 };
 
 /// The query of a call that takes a share count.
@@ -53,11 +53,6 @@ fn short_conversion(n: u64) -> u64 {
         1 => 0,
         _ => 3 * n - 2 + 2 * short_conversion(n - 1),
     }
-}
-
-/// Section 6: "One compression draws 5,220·n(n−1) words."
-fn compression(n: u64) -> u64 {
-    5220 * n * (n - 1)
 }
 
 /// What `split` draws (section 2): n−1.

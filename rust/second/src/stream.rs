@@ -1,7 +1,11 @@
 //! Streaming (request (i)): HMAC-SHA-1 by start, feed and finish, with the state handed in and out.
-//! Every call is lent its own words and draws from place 0 of them.
+//! Every call is lent its own words and draws from place 0 of them, so that the place its supply
+//! has reached is what the call itself drew. From there start and feed take the state's "running
+//! count of words drawn" (request (xii)).
 
-use crate::numbers::{first_refusal, first_state_refusal, would_pass_the_limit, State, Streamed};
+use crate::numbers::{
+    first_refusal, first_state_refusal, would_pass_the_limit, State, Streamed, SHA_1,
+};
 use crate::sha1;
 use crate::supply::Supply;
 
@@ -54,13 +58,16 @@ pub fn hmac_sha1_finish(state: State, tag: &mut [u8], words: &[u32]) -> Streamed
     })
 }
 
-/// "start does the inner key block, then the outer one".
+/// "start does the inner key block, then the outer one". The state gets what they drew and "the
+/// hash it belongs to" (request (xii)).
 fn start(n: usize, key: &[u32], supply: &mut Supply) -> Option<State> {
     let key = sha1::shared_words(n, key);
     let inner = sha1::inner_key_chain(&key, supply)?;
     let outer = sha1::outer_key_chain(&key, supply)?;
     Some(State {
         n,
+        drawn: supply.drawn(),
+        hash: SHA_1,
         inner: sha1::chain_record(&inner),
         outer: sha1::chain_record(&outer),
         ..State::ZEROS
@@ -81,12 +88,14 @@ fn cleared(state: &State) -> State {
     clear
 }
 
-/// A piece goes in byte by byte, so that how a message is cut cannot matter.
+/// A piece goes in byte by byte, so that how a message is cut cannot matter. What its blocks drew
+/// is added to the count at the end (request (xii)).
 fn feed(state: &State, piece: &[u8], supply: &mut Supply) -> Option<State> {
     let mut after = cleared(state);
     for &byte in piece {
         feed_byte(&mut after, byte, supply)?;
     }
+    after.drawn += supply.drawn();
     Some(after)
 }
 

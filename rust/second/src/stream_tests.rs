@@ -1,6 +1,7 @@
 //! Tests of streaming (request (i), with the share counts and the limit of request (vi)): every cut,
 //! the order of the draws and their counts, what is not read and what is cleared, the limits, and
-//! every refusal with what it leaves.
+//! every refusal with what it leaves. What the state carries (request (xii)) has tests of its own,
+//! which use the helpers here.
 
 use crate::tests::{
     compress_done, done, hex, hmac_done, opened_bytes, plain_hmac, public, random_bytes,
@@ -12,13 +13,15 @@ use crate::tests::{
 use crate::*;
 
 /// The limit as a count of bytes fed.
-const LIMIT: u64 = LONGEST as u64;
+pub(crate) const LIMIT: u64 = LONGEST as u64;
 
 /// The state that a refused start hands back.
 const ZEROS: State = State {
     n: 0,
     bytes: 0,
+    drawn: 0,
     finished: 0,
+    hash: 0,
     inner: Chain {
         shares: [0; CHAIN_WORDS],
     },
@@ -28,21 +31,78 @@ const ZEROS: State = State {
     tail: [0; 64],
 };
 
+/// The words of one compression by its ANDs: 32 for each of 325 additions, and 40 of its own. It
+/// wraps, so that any share count at all can be given.
+pub(crate) fn compression_count(n: usize) -> u64 {
+    let pairs_both_ways = (n as u64).wrapping_mul((n as u64).wrapping_sub(1));
+    pairs_both_ways.wrapping_mul((325 * 32 + 40) / 2)
+}
+
+/// The count that a fit state carries (request (xii)): two compressions of start and one for each
+/// block that the bytes filled. It wraps, so that any byte count at all can be given.
+pub(crate) fn fit_count(n: usize, bytes: u64) -> u64 {
+    (2 + bytes / 64).wrapping_mul(compression_count(n))
+}
+
 /// A made-up state, with pseudo-random words and bytes in every place of its chains and its tail.
-fn made_up(n: usize, bytes: u64, finished: u32, seed: u64) -> State {
+/// It carries the right count and hash, so that it is fit where the share count, the byte count and
+/// the mark are; an unfit one is made from it.
+pub(crate) fn made_up(n: usize, bytes: u64, finished: u32, seed: u64) -> State {
     State {
         n,
         bytes,
+        drawn: fit_count(n, bytes),
         finished,
+        hash: 0,
         inner: random_chain(seed),
         outer: random_chain(seed + 1),
         tail: random_bytes(seed + 2, 64).try_into().unwrap(),
     }
 }
 
+/// Counts of words other than the one that a state with these counts carries: near it, far from it,
+/// equal to it in the low 32 bits, with a finish's two or three compressions in it, without start's
+/// two, and those of other bytes, of another share count and of SHA-256 (request (vii)).
+pub(crate) fn wrong_counts(n: usize, bytes: u64) -> Vec<u64> {
+    let (right, one) = (fit_count(n, bytes), compression_count(n));
+    let mut others = vec![0, u64::MAX, u64::MAX - 1, u64::MAX - 5220];
+    others.push(fit_count(n.wrapping_add(1), bytes));
+    others.push((right / 5220).wrapping_mul(9664));
+    for more in [1, 1 << 32, 1 << 63] {
+        others.push(right.wrapping_add(more));
+        others.push(right.wrapping_sub(more));
+    }
+    for compressions in 1..=3_u64 {
+        let more = compressions.wrapping_mul(one);
+        others.push(right.wrapping_add(more));
+        others.push(right.wrapping_sub(more));
+    }
+    others.retain(|other| *other != right);
+    others
+}
+
+/// Made-up states with these counts: the one of `made_up`, not finished, and after it others that
+/// differ from it in the mark, the hash or the count of words, each of which makes a state unfit.
+pub(crate) fn made_up_ways(n: usize, bytes: u64, seed: u64) -> Vec<State> {
+    let fit = made_up(n, bytes, 0, seed);
+    let codes = [1, 2, 0x80000000, u32::MAX];
+    let mut states = vec![fit];
+    states.extend(codes.map(|finished| State { finished, ..fit }));
+    states.extend(codes.map(|hash| State { hash, ..fit }));
+    for drawn in wrong_counts(n, bytes) {
+        states.push(State { drawn, ..fit });
+    }
+    states
+}
+
 /// The state with other words and bytes in the places that are not used.
 fn with_junk(state: State, seed: u64) -> State {
-    let mut junk = made_up(state.n, state.bytes, state.finished, seed);
+    let mut junk = State {
+        inner: random_chain(seed),
+        outer: random_chain(seed + 1),
+        tail: random_bytes(seed + 2, 64).try_into().unwrap(),
+        ..state
+    };
     let (words, bytes) = (5 * state.n, state.bytes as usize % 64);
     junk.inner.shares[..words].copy_from_slice(&state.inner.shares[..words]);
     junk.outer.shares[..words].copy_from_slice(&state.outer.shares[..words]);
@@ -68,7 +128,7 @@ fn answer_of(streamed: Streamed) -> Answer {
 }
 
 /// A refusal that leaves this state.
-fn left(number: u32, state: State) -> Streamed {
+pub(crate) fn left(number: u32, state: State) -> Streamed {
     Streamed {
         number,
         drawn: 0,
@@ -77,7 +137,7 @@ fn left(number: u32, state: State) -> Streamed {
 }
 
 /// A finish, and the tag slice of 20 bytes afterwards.
-fn finish(state: State, words: &[u32]) -> (Streamed, [u8; 20]) {
+pub(crate) fn finish(state: State, words: &[u32]) -> (Streamed, [u8; 20]) {
     let mut tag = [0xa5; 20];
     let streamed = hmac_sha1_finish(state, &mut tag, words);
     (streamed, tag)
@@ -92,21 +152,21 @@ fn take<'a>(query: Answer, words: &mut &'a [u32]) -> &'a [u32] {
     lent
 }
 
-fn start_done(n: usize, key: &[u32], words: &mut &[u32]) -> State {
+pub(crate) fn start_done(n: usize, key: &[u32], words: &mut &[u32]) -> State {
     let query = hmac_sha1_start_words(n);
     let streamed = hmac_sha1_start(n, key, take(query, words));
     assert_eq!(answer_of(streamed), query);
     streamed.state
 }
 
-fn feed_done(state: State, piece: &[u8], words: &mut &[u32]) -> State {
+pub(crate) fn feed_done(state: State, piece: &[u8], words: &mut &[u32]) -> State {
     let query = hmac_sha1_feed_words(state, piece.len());
     let streamed = hmac_sha1_feed(state, piece, take(query, words));
     assert_eq!(answer_of(streamed), query);
     streamed.state
 }
 
-fn finish_done(state: State, words: &mut &[u32]) -> (State, Vec<u8>) {
+pub(crate) fn finish_done(state: State, words: &mut &[u32]) -> (State, Vec<u8>) {
     let query = hmac_sha1_finish_words(state);
     let (streamed, tag) = finish(state, take(query, words));
     assert_eq!(answer_of(streamed), query);
@@ -140,6 +200,7 @@ fn start_does_the_inner_key_block_then_the_outer_one() {
         assert!(rest.is_empty());
         let expected = State {
             n,
+            drawn: words.len() as u64,
             inner,
             outer,
             ..ZEROS
@@ -160,6 +221,7 @@ fn feed_compresses_each_block_once_it_is_full() {
             let mut rest = &words[..];
             let mut expected = State {
                 bytes: bytes + length as u64,
+                drawn: state.drawn + words.len() as u64,
                 ..state
             };
             for block in all.chunks(64) {
@@ -609,8 +671,12 @@ fn tags_of_another_length_stay() {
 }
 
 /// Whether a state has to be refused with number 6.
-fn is_unfit(state: State) -> bool {
-    state.finished != 0 || !COUNTS.contains(&state.n) || state.bytes > LIMIT
+pub(crate) fn is_unfit(state: State) -> bool {
+    state.finished != 0
+        || !COUNTS.contains(&state.n)
+        || state.bytes > LIMIT
+        || state.hash != 0
+        || state.drawn != fit_count(state.n, state.bytes)
 }
 
 /// The number that a feed has to give, in numbers wide enough for any sum.
@@ -646,8 +712,7 @@ fn any_state_at_all_can_be_fed_or_refused() {
     let words = random_words(1, sha1_compress_words(4).drawn);
     for n in COUNTS.into_iter().chain(WRONG_COUNTS) {
         for (place, bytes) in some.into_iter().enumerate() {
-            for finished in [0, 1, 2, u32::MAX] {
-                let state = made_up(n, bytes, finished, place as u64 + 2);
+            for state in made_up_ways(n, bytes, place as u64 + 2) {
                 for length in [0, 1, 2, 63, 64, 65, LONGEST + 1] {
                     let number = feed_number(state, length, words.len() as u64);
                     let streamed = hmac_sha1_feed(state, &vec![7; length], &words);
@@ -655,7 +720,9 @@ fn any_state_at_all_can_be_fed_or_refused() {
                     let query = hmac_sha1_feed_words(state, length);
                     if number == 0 {
                         assert_eq!(answer_of(streamed), query);
-                        assert_eq!(streamed.state.bytes, bytes + length as u64);
+                        let after = streamed.state;
+                        assert_eq!(after.bytes, bytes + length as u64);
+                        assert_eq!(after.drawn, fit_count(n, after.bytes));
                     } else {
                         assert_eq!(streamed, left(number, state));
                         let named = if number == 5 { 0 } else { number };
@@ -683,8 +750,7 @@ fn any_state_at_all_can_be_finished_or_refused() {
     let words = random_words(1, sha1_compress_words(4).drawn);
     for n in COUNTS.into_iter().chain(WRONG_COUNTS) {
         for (place, bytes) in some.into_iter().enumerate() {
-            for mark in [0, 1, 2, u32::MAX] {
-                let state = made_up(n, bytes, mark, place as u64 + 2);
+            for state in made_up_ways(n, bytes, place as u64 + 2) {
                 let (streamed, tag) = finish(state, &words);
                 let blocks = if bytes % 64 < 56 { 2 } else { 3 };
                 if is_unfit(state) {
