@@ -109,41 +109,49 @@ module _ (bytes l : ℕ) (tail : List ℕ) (whole : length (map (λ (v : ℕ). v
       → at + (length (take (bytes % 64 - 0) tail) + l) / 64 * d ≤ have
   piece-room d at have h = rw (tail-size bytes tail whole) h
 
-module _ (s : State) (piece ws tail rest : List ℕ) (at p : ℕ) (inner : Chain) (r : State) where
-  abbrev left : ℕ
-  left = (s .bytes + length piece) % 64
+  pub piece-place : (d at p : ℕ) → p ≡ at + (length (take (bytes % 64 - 0) tail) + l) / 64 * d
+      → p ≡ at + (bytes % 64 + l) / 64 * d
+  piece-place d at p e = rw (tail-size bytes tail whole) at e
 
-  pub feed-made : length (map (λ (v : ℕ). v) (s .tail)) ≡ 64 → tail ≡ take (s .bytes % 64 - 0) (s .tail)
-      → fullBlocks hash (s .n) ((length tail + length piece) / 64) (tail ++ piece)
-      (used (s .n) (s .inner .shares)) ws at
-      ≡ (used (s .n) (inner .shares), p)
-      → rest ≡ take (length (take {A = ℕ} (left - 0) (replicate 64 0)))
-      (drop (s .bytes % 64 + length piece - left) (tail ++ piece))
-      → r ≡ record {
-        n = s .n;
-        bytes = s .bytes + length piece;
-        drawn = stateDraws hash (s .n) (s .bytes + length piece);
-        finished = 0;
-        hash = hash .code;
-        inner = record { shares = filled chainRoom (used (s .n) (inner .shares)) };
-        outer = record { shares = filled chainRoom (used (s .n) (s .outer .shares)) };
-        tail = rest ++ drop {A = ℕ} (left - 0) (replicate 64 0);
-      }
-      → feed hash s piece ws at ≡ (r, p)
-  unfolding feed state used
-  feed-made whole waits full ends is =
-      let text = tail ++ piece in
-      let m = s .bytes % 64 in
-      let waited : tail ≡ take m (s .tail) = waits ∙ rw (sub-zero m) in
-      let long : length tail ≡ m = ap length waited
-      ∙ length-take-le m (s .tail) (tail-room (s .bytes) (s .tail) whole) in
-      let size : length text ≡ length tail + length piece = length-append tail piece in
-      let place : m + length piece - left ≡ length text / 64 * 64 = omega arith in
-      let over : length (drop (length text / 64 * 64) text) ≡ left = length-drop (length text / 64 * 64) text
-      ∙ omega arith in
+-- the bytes after the last full block, stored in front of zeros
+module _ (tail piece z : List ℕ) where
+  abbrev count : ℕ
+  count = length tail + length piece
+
+  abbrev left : ℕ
+  left = count % 64
+
+  pub rest-made : z ≡ take (length (take {A = ℕ} (left - 0) (replicate 64 0))) (drop (count - left) (tail ++ piece))
+      → z ++ drop {A = ℕ} (left - 0) (replicate 64 0) ≡ filled 64 (drop (count / 64 * 64) (tail ++ piece))
+  rest-made e =
+      let rest = drop (count / 64 * 64) (tail ++ piece) in
+      let place : count - left ≡ count / 64 * 64 = omega arith in
+      let over : length rest ≡ left =
+      length-drop (count / 64 * 64) (tail ++ piece) ∙ omega (arith, length-append tail piece) in
       let room : length (take {A = ℕ} (left - 0) (replicate 64 0)) ≡ left =
       rw (sub-zero left) (length-take-le left (replicate 64 0) (omega arith)) in
-      let last : rest ≡ drop (length text / 64 * 64) text =
-      ends ∙ ap₂ (λ l t. take l (drop t text)) room place
-      ∙ take-all left (drop (length text / 64 * 64) text) (omega (arith, over)) in
-      rw (is, ← waited, last, over, zeros-after 64 left (omega arith), size, full)
+      let last : z ≡ rest =
+      e ∙ ap₂ (λ l t. take l (drop t (tail ++ piece))) room place ∙ take-all left rest (omega (arith, over)) in
+      rw (last, over, zeros-after 64 left (omega arith))
+
+pub feed-made : (s : State) (piece ws tail rest : List ℕ) (at p : ℕ) (inner : Chain) (r : State)
+    → tail ≡ take (s .bytes % 64 - 0) (s .tail)
+    → fullBlocks hash (s .n) ((length tail + length piece) / 64) (tail ++ piece)
+    (used (s .n) (s .inner .shares)) ws at
+    ≡ (used (s .n) (inner .shares), p)
+    → rest ≡ filled 64 (drop ((length tail + length piece) / 64 * 64) (tail ++ piece))
+    → r ≡ record {
+      n = s .n;
+      bytes = s .bytes + length piece;
+      drawn = stateDraws hash (s .n) (s .bytes + length piece);
+      finished = 0;
+      hash = hash .code;
+      inner = record { shares = filled chainRoom (used (s .n) (inner .shares)) };
+      outer = record { shares = filled chainRoom (used (s .n) (s .outer .shares)) };
+      tail = rest;
+    }
+    → feed hash s piece ws at ≡ (r, p)
+unfolding feed state used
+feed-made s piece ws tail rest at p inner r waits full ends is =
+    let waited : tail ≡ take (s .bytes % 64) (s .tail) = waits ∙ rw (sub-zero (s .bytes % 64)) in
+    rw (is, ← waited, length-append tail piece, full, ends)

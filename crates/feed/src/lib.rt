@@ -5,7 +5,7 @@ ghost use mathlib.Core.List.{_++_};
 ghost use Prim.Native.Nat.{_+_, _*_, _/_, _≤_, _<_};
 ghost use lib.ListN.{length, getD, take, drop};
 ghost use Rattle.rules.specs.Numbers.{largest, longestMessage};
-ghost use Rattle.rules.specs.Hash.{wordsOf};
+ghost use Rattle.rules.specs.Hash.{wordsOf, filled};
 ghost use Rattle.rules.specs.Sha1.{publics, used};
 ghost use Rattle.rules.specs.Counts.{feedDraws};
 ghost use Rattle.rules.specs.Stream.{fullBlocks, feed, streamed, feedCall, fedAnswer};
@@ -82,9 +82,10 @@ fn full_blocks(
 ) -> Stepped
     requires { ⌜ (0 < n) × (n ≤ largest) × Hashable (length (now tail) + length (now piece))
         × (at + (length (now tail) + length (now piece)) / 64 * hash .draws n ≤ length (now words)) ⌝ }
-    ensures { λ r. ⌜ fullBlocks hash n ((length (now (tail .entry)) + length (now (piece .entry))) / 64)
+    ensures { λ r. ⌜ (fullBlocks hash n ((length (now (tail .entry)) + length (now (piece .entry))) / 64)
         (now (tail .entry) ++ now (piece .entry)) (used n (chain .shares)) (now (words .entry)) at
-        ≡ (used n (r .chain .shares), r .at) ⌝ }
+        ≡ (used n (r .chain .shares), r .at))
+        × (r .at ≡ at + (length (now (tail .entry)) + length (now (piece .entry))) / 64 * hash .draws n) ⌝ }
 {
     let end = BLOCK_WORDS * n;
     let mut block0 = [0u32; BLOCK];
@@ -102,22 +103,33 @@ fn full_blocks(
     Stepped { chain: c, at: p }
 }
 
+// The bytes after the last full block of those that wait and then the piece, in front of zeros.
+fn rest_of(tail: &[u8], piece: &[u8]) -> [u8; BLOCK_BYTES]
+    requires { ⌜ Hashable (length (now tail) + length (now piece)) ⌝ }
+    ensures { λ r. ⌜ r ≡ filled 64 (drop ((length (now (tail .entry)) + length (now (piece .entry))) / 64 * 64)
+        (now (tail .entry) ++ now (piece .entry))) ⌝ }
+{
+    let count = tail.len() + piece.len();
+    let left = count % BLOCK_BYTES;
+    let mut rest = [0u8; BLOCK_BYTES];
+    let front = &mut rest[0..left];
+    gather(tail, piece, count - left, front);
+    rest
+}
+
 // The state after a piece, from the word at `at` on.
 fn feed_at(state: State, piece: &[u8], words: &[u32], at: usize) -> Moved
     requires { ⌜ (0 < state .n) × (state .n ≤ largest) × (state .bytes + length (now piece) ≤ longestMessage)
         × (at + feedDraws hash (state .n) (state .bytes) (length (now piece)) ≤ length (now words)) ⌝ }
-    ensures { λ r. ⌜ feed hash state (now (piece .entry)) (now (words .entry)) at ≡ (r .state, r .at) ⌝ }
+    ensures { λ r. ⌜ (feed hash state (now (piece .entry)) (now (words .entry)) at ≡ (r .state, r .at))
+        × (r .at ≡ at + feedDraws hash (state .n) (state .bytes) (length (now (piece .entry)))) ⌝ }
 {
-    let bytes = state.bytes;
-    let waiting = bytes % BLOCK_BYTES;
+    let waiting = state.bytes % BLOCK_BYTES;
     let all = state.tail;
     let tail = &all[0..waiting];
     let made = full_blocks(state.n, state.inner, tail, piece, words, at);
-    let after = bytes + piece.len();
-    let left = after % BLOCK_BYTES;
-    let mut rest = [0u8; BLOCK_BYTES];
-    let front = &mut rest[0..left];
-    gather(tail, piece, waiting + piece.len() - left, front);
+    let rest = rest_of(tail, piece);
+    let after = state.bytes + piece.len();
     Moved {
         state: state_of(state.n, after, made.chain, state.outer, rest),
         at: made.at,

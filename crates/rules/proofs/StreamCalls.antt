@@ -12,6 +12,7 @@ use borrow.Author.Tests.{eqb-true, leb-true}
 use Rattle.rules.specs.declared.Answer.{Answer}
 use Rattle.rules.specs.declared.Chain.{Chain}
 use Rattle.rules.specs.declared.State.{State}
+use Rattle.rules.specs.declared.Streamed.{Streamed}
 use Rattle.rules.specs.declared.Fed.the-variants.{Taken, Refused}
 use Rattle.rules.specs.Supply.{Rule}
 use Rattle.rules.specs.Numbers.{largest, longestMessage, allowed, Test, test, first, settled}
@@ -20,9 +21,10 @@ use Rattle.rules.specs.Standard.{SHA1}
 use Rattle.rules.specs.Sha1.{openWords, chainRoom}
 use Rattle.rules.specs.Hmac.{Masked}
 use Rattle.rules.specs.Counts.{startDraws, feedDraws, finishDraws, sha1}
-use Rattle.rules.specs.Stream.{inUse, waiting, isFit, stateOfZeros, start, feed, finish, startWords, feedWords}
+use Rattle.rules.specs.Stream.{inUse, waiting, fit, isFit, stateOfZeros, start, feed, finish, startWords, feedWords}
 use Rattle.rules.specs.Stream.{finishWords}
 use Rattle.rules.specs.Stream.{streamed, startCall, feedCall, fedAnswer, finishCall, closed}
+use Rattle.rules.specs.Calls.{query}
 use Rattle.rules.specs.Outcome.{Whole}
 use Rattle.rules.proofs.Rule.{said, alike}
 use Rattle.rules.proofs.Allowed.{within}
@@ -92,96 +94,97 @@ start-needs n key ws q h e =
     needs (startDraws (sha1 32) n) q _ ws e (taken count)
     (start-rule (sha1-size n some) (sha1-proper 32) some (words-size (sha1 32) n some (sha1-size n some) 16 key size))
 
-fit-parts : (s : State) → isFit (sha1 32) s ≡ true → (allowed (s .n) ≡ true) × (s .bytes ≤ longestMessage)
-fit-parts s = fits (sha1 32) (s .n) (s .bytes) (s .drawn) (s .finished) (s .hash)
-
-fit-taken : (s : State) → isFit (sha1 32) s ≡ true → first (test 6 (isFit (sha1 32) s) ∷ []) ≡ 0
+fit-taken : {fits : Bool} → fits ≡ true → first (test 6 fits ∷ []) ≡ 0
 unfolding first test
-fit-taken s h = rw h
+fit-taken h = rw h
 
-fit-grown : (s : State) (short : Bool) → isFit (sha1 32) s ≡ true → short ≡ true → first (test 6 (isFit (sha1 32) s) ∷ test 4 short ∷ [])
-    ≡ 0
+fit-grown : {fits short : Bool} → fits ≡ true → short ≡ true → first (test 6 fits ∷ test 4 short ∷ []) ≡ 0
 unfolding first test
-fit-grown s short h e = rw (h, e)
+fit-grown h e = rw (h, e)
 
--- ---- the tests of a feed and of a finish, after those of its query
+-- ---- a call on a state asks its query, and then makes its own tests; what its callee may ask once they are passed
 abbrev also : ℕ → Test → ℕ
 also number t = settled number t number
 
-module _ (s : State) (have number : ℕ) (q : Answer) where
-  pub feed-tests : (l : ℕ) → feedWords (sha1 32) s l ≡ q → number ≡ also (q .number) (test 5 (leb (q .drawn) have))
-      → first (test 6 (isFit (sha1 32) s) ∷ test 4 (leb (s .bytes + l) longestMessage) ∷ test 5 (leb (q .drawn) have) ∷ [])
-      ≡ number
-  feed-tests l e is = one-more (_ ∷ _ ∷ []) _ (q .number) number (ap (λ (a : Answer). a .number) e) is
+module _ (n bytes drawn finished hash have number : ℕ) (q : Answer) where
+  abbrev taken-so : Bool
+  taken-so = fit (sha1 32) n bytes drawn finished hash
 
-  pub finish-tests : (tag : ℕ) → finishWords (sha1 32) s ≡ q
-      → number ≡ also (also (q .number) (test 3 (eqb tag 20))) (test 5 (leb (q .drawn) have))
-      → first (test 6 (isFit (sha1 32) s) ∷ test 3 (eqb tag 20) ∷ test 5 (leb (q .drawn) have) ∷ []) ≡ number
-  finish-tests tag e is =
-      let two = one-more (_ ∷ []) (test 3 (eqb tag 20)) (q .number) _ (ap (λ (a : Answer). a .number) e) refl in
-      one-more (_ ∷ _ ∷ []) _ _ number two is
+  module _ (l : ℕ)
+      (e : query (test 6 taken-so ∷ test 4 (leb (bytes + l) longestMessage) ∷ []) (feedDraws (sha1 32) n bytes l) ≡ q)
+      (is : number ≡ also (q .number) (test 5 (leb (q .drawn) have))) where
+    feed-tests : first (test 6 taken-so ∷ test 4 (leb (bytes + l) longestMessage) ∷ test 5 (leb (q .drawn) have) ∷ [])
+        ≡ number
+    feed-tests = one-more (_ ∷ _ ∷ []) _ (q .number) number (ap (λ (a : Answer). a .number) e) is
 
-  -- ---- what its callee may ask
-  pub feed-ready : (l : ℕ) → feedWords (sha1 32) s l ≡ q → number ≡ also (q .number) (test 5 (leb (q .drawn) have))
-      → number ≡ 0
-      → (0 < s .n) × (s .n ≤ largest) × (s .bytes + l ≤ longestMessage)
-      × (0 + feedDraws (sha1 32) (s .n) (s .bytes) l ≤ have)
-  feed-ready l e is z =
-      let p = passed _ (feed-tests l e is ∙ z) in
-      let fit = holds _ _ (p .0) in
-      let short = holds _ _ (p .1 .0) in
-      let few = within (s .n) (fit-parts s fit .0) in
-      let told = tells _ _ q e (fit-grown s (leb (s .bytes + l) longestMessage) fit short) in
-      (few .0, few .1, leb-true _ _ short, rw (zero-add, told) (leb-true _ _ (holds _ _ (p .1 .1 .0))))
+    pub feed-ready : number ≡ 0
+        → (0 < n) × (n ≤ largest) × (bytes + l ≤ longestMessage) × (0 + feedDraws (sha1 32) n bytes l ≤ have)
+    feed-ready z =
+        let p = passed _ (feed-tests ∙ z) in
+        let fit = holds _ _ (p .0) in
+        let short = holds _ _ (p .1 .0) in
+        let count = within n (fits (sha1 32) n bytes drawn finished hash fit .0) in
+        let told = tells _ _ q e (fit-grown fit short) in
+        (count .0, count .1, leb-true _ _ short, rw (zero-add, told) (leb-true _ _ (holds _ _ (p .1 .1 .0))))
 
-  pub finish-ready : (tag : ℕ) → finishWords (sha1 32) s ≡ q
-      → number ≡ also (also (q .number) (test 3 (eqb tag 20))) (test 5 (leb (q .drawn) have)) → number ≡ 0
-      → (0 < s .n) × (s .n ≤ largest) × (s .bytes ≤ longestMessage) × (tag ≡ 20)
-      × (0 + finishDraws (sha1 32) (s .n) (s .bytes) ≤ have)
-  finish-ready tag e is z =
-      let p = passed _ (finish-tests tag e is ∙ z) in
-      let fit = holds _ _ (p .0) in
-      let parts = fit-parts s fit in
-      let few = within (s .n) (parts .0) in
-      let told = tells _ _ q e (fit-taken s fit) in (
-        few .0,
-        few .1,
-        parts .1,
-        eqb-true tag 20 (holds _ _ (p .1 .0)),
-        rw (zero-add, told) (leb-true _ _ (holds _ _ (p .1 .1 .0))),
-      )
+  module _ (tag : ℕ) (e : query (test 6 taken-so ∷ []) (finishDraws (sha1 32) n bytes) ≡ q)
+      (is : number ≡ also (also (q .number) (test 3 (eqb tag 20))) (test 5 (leb (q .drawn) have))) where
+    finish-tests : first (test 6 taken-so ∷ test 3 (eqb tag 20) ∷ test 5 (leb (q .drawn) have) ∷ []) ≡ number
+    finish-tests =
+        let two = one-more (_ ∷ []) (test 3 (eqb tag 20)) (q .number) _ (ap (λ (a : Answer). a .number) e) refl in
+        one-more (_ ∷ _ ∷ []) _ _ number two is
 
-module _ (s : State) (ws : List ℕ) (q : Answer) (inner : length (map (λ (v : ℕ). v) (s .inner .shares)) ≡ chainRoom)
-    (outer : length (map (λ (v : ℕ). v) (s .outer .shares)) ≡ chainRoom)
-    (tail : length (map (λ (v : ℕ). v) (s .tail)) ≡ 64) where
-  whole : Whole s
-  whole =
-      record {
-        inner-whole = chain-length (s .inner .shares) inner;
-        outer-whole = chain-length (s .outer .shares) outer;
-        tail-whole = sym (length-map (s .tail) (λ (v : ℕ). v)) ∙ tail;
-      }
+    pub finish-ready : number ≡ 0
+        → (0 < n) × (n ≤ largest) × (bytes ≤ longestMessage) × (tag ≡ 20)
+        × (0 + finishDraws (sha1 32) n bytes ≤ have)
+    finish-ready z =
+        let p = passed _ (finish-tests ∙ z) in
+        let fit = holds _ _ (p .0) in
+        let parts = fits (sha1 32) n bytes drawn finished hash fit in
+        let count = within n (parts .0) in
+        let told = tells _ _ q e (fit-taken fit) in (
+          count .0,
+          count .1,
+          parts .1,
+          eqb-true tag 20 (holds _ _ (p .1 .0)),
+          rw (zero-add, told) (leb-true _ _ (holds _ _ (p .1 .1 .0))),
+        )
 
-  few : allowed (s .n) ≡ true → chainWords (SHA1 32) * s .n ≤ chainRoom
-  few count = omega (arith, within (s .n) count .1)
+-- ---- each rule draws what its query tells, of any state that has its type's sizes
+module _ (s : State) (ws : List ℕ) (q : Answer) where
+  module _ (inner : length (map (λ (v : ℕ). v) (s .inner .shares)) ≡ chainRoom)
+      (outer : length (map (λ (v : ℕ). v) (s .outer .shares)) ≡ chainRoom)
+      (tail : length (map (λ (v : ℕ). v) (s .tail)) ≡ 64) where
+    whole : Whole s
+    whole =
+        record {
+          inner-whole = chain-length (s .inner .shares) inner;
+          outer-whole = chain-length (s .outer .shares) outer;
+          tail-whole = sym (length-map (s .tail) (λ (v : ℕ). v)) ∙ tail;
+        }
 
-  pub feed-needs : (piece : List ℕ)
-      → (let tests = test 6 (isFit (sha1 32) s) ∷ test 4 (leb (s .bytes + length piece) longestMessage) ∷ [] in
-      first tests ≡ 0 → feedWords (sha1 32) s (length piece) ≡ q → feed (sha1 32) s piece ws 0 .1 ≡ q .drawn)
-  feed-needs piece h e =
-      let count = fit-parts s (holds _ _ (passed _ h .0)) .0 in
-      let some = within (s .n) count .0 in
-      needs (feedDraws (sha1 32) (s .n) (s .bytes) (length piece)) q _ ws e h
-      (feed-sized (sha1 32) s some (sha1-size (s .n) some) refl (few count) whole piece)
+    few : allowed (s .n) ≡ true → chainWords (SHA1 32) * s .n ≤ chainRoom
+    few count = omega (arith, within (s .n) count .1)
 
-  pub finish-needs : (came : List ℕ) → first (test 6 (isFit (sha1 32) s) ∷ test 3 (eqb (length came) 20) ∷ []) ≡ 0
-      → finishWords (sha1 32) s ≡ q → finish (sha1 32) s ws 0 .1 ≡ q .drawn
-  finish-needs came h e =
-      let fit = holds _ _ (passed _ h .0) in
-      let count = fit-parts s fit .0 in
-      let some = within (s .n) count .0 in
-      needs (finishDraws (sha1 32) (s .n) (s .bytes)) q _ ws e (fit-taken s fit)
-      (finish-sized (sha1 32) s some (sha1-size (s .n) some) refl (few count) whole (sha1-proper 32))
+    counted : isFit (sha1 32) s ≡ true → allowed (s .n) ≡ true
+    counted h = fits (sha1 32) (s .n) (s .bytes) (s .drawn) (s .finished) (s .hash) h .0
+
+    feed-needs : (piece : List ℕ)
+        → first (test 6 (isFit (sha1 32) s) ∷ test 4 (leb (s .bytes + length piece) longestMessage) ∷ []) ≡ 0
+        → feedWords (sha1 32) s (length piece) ≡ q → feed (sha1 32) s piece ws 0 .1 ≡ q .drawn
+    feed-needs piece h e =
+        let count = counted (holds _ _ (passed _ h .0)) in
+        let some = within (s .n) count .0 in
+        needs (feedDraws (sha1 32) (s .n) (s .bytes) (length piece)) q _ ws e h
+        (feed-sized (sha1 32) s some (sha1-size (s .n) some) refl (few count) whole piece)
+
+    finish-needs : (came : List ℕ) → first (test 6 (isFit (sha1 32) s) ∷ test 3 (eqb (length came) 20) ∷ []) ≡ 0
+        → finishWords (sha1 32) s ≡ q → finish (sha1 32) s ws 0 .1 ≡ q .drawn
+    finish-needs came h e =
+        let fit = holds _ _ (passed _ h .0) in
+        let some = within (s .n) (counted fit) .0 in
+        needs (finishDraws (sha1 32) (s .n) (s .bytes)) q _ ws e (fit-taken fit)
+        (finish-sized (sha1 32) s some (sha1-size (s .n) some) refl (few (counted fit)) whole (sha1-proper 32))
 
   -- ---- a feed: refused, with the state as it was given, or done
   module _ (piece : List ℕ) (number : ℕ) (e : feedWords (sha1 32) s (length piece) ≡ q)
@@ -189,45 +192,58 @@ module _ (s : State) (ws : List ℕ) (q : Answer) (inner : length (map (λ (v : 
     fed-number : first (test 6 (isFit (sha1 32) s) ∷ test 4 (leb (s .bytes + length piece) longestMessage)
         ∷ test 5 (leb (q .drawn) (length ws)) ∷ [])
         ≡ number
-    fed-number = feed-tests s (length ws) number q (length piece) e is
+    fed-number = feed-tests (s .n) (s .bytes) (s .drawn) (s .finished) (s .hash) (length ws) number q (length piece) e is
 
-    pub feed-refused : (number ≡ 0 → ⊥) → feedCall (sha1 32) s piece ws ≡ streamed (fedAnswer (Refused number)) s
+    pub feed-refused : length (map (λ (v : ℕ). v) (s .inner .shares)) ≡ chainRoom
+        → length (map (λ (v : ℕ). v) (s .outer .shares)) ≡ chainRoom → length (map (λ (v : ℕ). v) (s .tail)) ≡ 64
+        → (number ≡ 0 → ⊥) → feedCall (sha1 32) s piece ws ≡ streamed (fedAnswer (Refused number)) s
     unfolding feedCall
-    feed-refused h =
+    feed-refused inner outer tail h =
         ap (λ (o : Answer × State). streamed (o .0) (o .1))
-        (refused _ (feed (sha1 32) s piece) s ws number (q .drawn) _ fed-number (λ z. feed-needs piece z e) h refl)
+        (refused _ (feed (sha1 32) s piece) s ws number (q .drawn) _ fed-number
+        (λ z. feed-needs inner outer tail piece z e) h refl)
 
     pub feed-done : number ≡ 0 → (next : State) (drawn : ℕ) → feed (sha1 32) s piece ws 0 ≡ (next, drawn)
+        → drawn ≡ 0 + feedDraws (sha1 32) (s .n) (s .bytes) (length piece)
         → feedCall (sha1 32) s piece ws ≡ streamed (fedAnswer (Taken drawn)) next
     unfolding feedCall
-    feed-done h next drawn f =
+    feed-done h next drawn f place =
         ap (λ (o : Answer × State). streamed (o .0) (o .1))
-        (done _ (feed (sha1 32) s piece) s ws number (q .drawn) _ fed-number (λ z. feed-needs piece z e) h next drawn f
-        refl)
+        (done _ (feed (sha1 32) s piece) s ws number (q .drawn) _ fed-number
+        (λ z. ap (λ (o : State × ℕ). o .1) f ∙ place ∙ zero-add _ ∙ tells _ _ q e z) h next drawn f refl)
 
   -- ---- a finish: refused, with the state and the tag's bytes as they came, or done
   module _ (came : List ℕ) (number : ℕ) (e : finishWords (sha1 32) s ≡ q)
-      (is : number ≡ also (also (q .number) (test 3 (eqb (length came) 20))) (test 5 (leb (q .drawn) (length ws)))) where
+      (is : number ≡ also (also (q .number) (test 3 (eqb (length came) 20))) (test 5 (leb (q .drawn) (length ws))))
+      (r : Streamed) where
     finished-number :
         first (test 6 (isFit (sha1 32) s) ∷ test 3 (eqb (length came) 20) ∷ test 5 (leb (q .drawn) (length ws)) ∷ [])
         ≡ number
-    finished-number = finish-tests s (length ws) number q (length came) e is
+    finished-number =
+        finish-tests (s .n) (s .bytes) (s .drawn) (s .finished) (s .hash) (length ws) number q (length came) e is
 
-    pub finish-refused : (number ≡ 0 → ⊥)
-        → finishCall (sha1 32) s came ws ≡ (record { number = number; drawn = 0; state = s }, came)
+    pub finish-refused : length (map (λ (v : ℕ). v) (s .inner .shares)) ≡ chainRoom
+        → length (map (λ (v : ℕ). v) (s .outer .shares)) ≡ chainRoom → length (map (λ (v : ℕ). v) (s .tail)) ≡ 64
+        → (number ≡ 0 → ⊥) → r ≡ record { number = number; drawn = 0; state = s }
+        → finishCall (sha1 32) s came ws ≡ (r, came)
     unfolding finishCall
-    finish-refused h =
+    finish-refused inner outer tail h f =
         ap (λ (o : Answer × List ℕ). (streamed (o .0) (settled (o .0 .number) (closed s) s), o .1))
-        (refused _ (finish (sha1 32) s) came ws number (q .drawn) _ finished-number (λ z. finish-needs came z e) h refl)
-        ∙ rw (settled-refused number (closed s) s h)
+        (refused _ (finish (sha1 32) s) came ws number (q .drawn) _ finished-number
+        (λ z. finish-needs inner outer tail came z e) h refl)
+        ∙ rw (settled-refused number (closed s) s h, f)
 
     pub finish-done : number ≡ 0 → (tag : List ℕ) (drawn : ℕ) → finish (sha1 32) s ws 0 ≡ (tag, drawn)
-        → finishCall (sha1 32) s came ws ≡ (record { number = 0; drawn = drawn; state = closed s }, tag)
+        → drawn ≡ 0 + finishDraws (sha1 32) (s .n) (s .bytes) → (end : State) → end ≡ closed s
+        → r ≡ record { number = 0; drawn = drawn; state = end }
+        → finishCall (sha1 32) s came ws ≡ (r, tag)
     unfolding finishCall
-    finish-done h tag drawn f =
+    finish-done h tag drawn f place end marked g =
         ap (λ (o : Answer × List ℕ). (streamed (o .0) (settled (o .0 .number) (closed s) s), o .1))
-        (done _ (finish (sha1 32) s) came ws number (q .drawn) _ finished-number (λ z. finish-needs came z e) h tag
-        drawn f refl)
+        (done _ (finish (sha1 32) s) came ws number (q .drawn) _ finished-number
+        (λ z. ap (λ (o : List ℕ × ℕ). o .1) f ∙ place ∙ zero-add _ ∙ tells _ _ q e (fit-taken (holds _ _ (passed _ z .0))))
+        h tag drawn f refl)
+        ∙ rw (g, marked)
 
 -- ---- a start: refused, with a state of zeros, or done
 module _ (n : ℕ) (key ws : List ℕ) (q : Answer) (number : ℕ) (e : startWords (sha1 32) n ≡ q)

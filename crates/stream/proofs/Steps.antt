@@ -55,6 +55,12 @@ module _ (bytes : ℕ) (tail : List ℕ) (whole : length (map (λ (v : ℕ). v) 
       let q = (bytes % 64 + 8) / 64 in
       omega (arith, rw (tail-size bytes tail whole) at e, add-mul q 1 d, add-mul q 2 d)
 
+  pub finish-place : (d at p q : ℕ) → p ≡ at + blocksIn (length (take (bytes % 64 - 0) tail)) * d → q ≡ p + d
+      → q ≡ at + ((bytes % 64 + 8) / 64 + 2) * d
+  finish-place d at p q e f =
+      let m = (bytes % 64 + 8) / 64 in
+      omega (arith, rw (tail-size bytes tail whole) at e, add-mul m 1 d, add-mul m 2 d)
+
 -- ---- the tag: the rest of the message with its padding, then the digest block
 pub finish-made : (s : State) (ws tail tag : List ℕ) (at p q : ℕ) (inner last : Chain)
     → tail ≡ take (s .bytes % 64 - 0) (s .tail)

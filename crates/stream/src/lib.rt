@@ -37,7 +37,8 @@ pub fn start_at(n: usize, key: &[u32], words: &[u32], at: usize) -> Moved
 pub fn finish_at(state: State, tag: &mut [u8], words: &[u32], at: usize) -> usize
     requires { ⌜ (0 < state .n) × (state .n ≤ largest) × (state .bytes ≤ longestMessage) × (length (now tag) ≡ 20)
         × (at + finishDraws hash (state .n) (state .bytes) ≤ length (now words)) ⌝ }
-    ensures { λ r. ⌜ finish hash state (now (words .entry)) at ≡ (now (tag .exit), r) ⌝ }
+    ensures { λ r. ⌜ (finish hash state (now (words .entry)) at ≡ (now (tag .exit), r))
+        × (r ≡ at + finishDraws hash (state .n) (state .bytes)) ⌝ }
 {
     let n = state.n;
     let bytes = state.bytes;

@@ -7,7 +7,7 @@ use lib.ListN.{length, drop}
 use Rattle.rules.specs.Sha1.{used}
 use Rattle.rules.specs.Stream.{fullBlocks}
 use Rattle.hash.specs.Hash.{hash}
-use Rattle.hash.proofs.Blocks.{block-room}
+use Rattle.hash.proofs.Blocks.{block-room, block-place}
 use Rattle.feed.proofs.Steps.{full-begin, full-next, full-end}
 use Rattle.feed.proofs.full_blocks.Statement.{statement}
 use Rattle.feed.proofs.full_blocks.Tie as tie
@@ -38,4 +38,4 @@ full-blocks-spec =
     (λ c. search needs)
     (λ c. search needs)
     (λ c. (search needs, search needs, search needs, search needs, search full-next))
-    (λ c. search full-end))
+    (λ c. (search full-end, search block-place)))

@@ -2,12 +2,9 @@
 use borrow.Author.Needs.{needs}
 use native.Mathlib.Omega.{arith}
 use Rattle.states.proofs.Tails.{tail-room}
-use Rattle.stream.proofs.Steps.{last-fits, last-room, digest-room, finish-made}
+use Rattle.stream.proofs.Steps.{last-fits, last-room, digest-room, finish-made, finish-place}
 use Rattle.stream.proofs.finish_at.Statement.{statement}
 use Rattle.stream.proofs.finish_at.Tie as tie
-
-returns : tie.Need-returns
-returns c = search finish-made
 
 pub finish-at-spec : {M : Type 1} → statement M
 finish-at-spec =
@@ -26,4 +23,4 @@ finish-at-spec =
     (λ c κs. (search needs, search needs, search needs, search digest-room))
     (λ c κs. search needs)
     (λ c. search needs)
-    returns)
+    (λ c. (search finish-made, search finish-place)))
