@@ -21,7 +21,6 @@ use Rattle.rules.proofs.Bytes.{length-words, words-front}
 use Rattle.rules.proofs.Hashes.{ending-front}
 use Rattle.rules.proofs.Tags.{sha1-proper}
 use Rattle.hash.specs.Hash.{hash}
-use Rattle.states.proofs.Tails.{tail-room, tail-size}
 
 -- ---- the bytes that wait and then the piece
 module _ (tail piece : List ℕ) where
@@ -101,17 +100,15 @@ module _ (n : ℕ) (ws text : List ℕ) (count : ℕ) (e : Run) where
   full-end j p g l inv = let m : count - j ≡ 0 = omega arith in sym (rw m at inv)
 
 -- ---- a state after a piece
-module _ (bytes l : ℕ) (tail : List ℕ) (whole : length (map (λ (v : ℕ). v) tail) ≡ 64) where
-  pub piece-fits : bytes + l ≤ longestMessage → length (take (bytes % 64 - 0) tail) + l < 2 ^ 60
-  piece-fits h = rw (tail-size bytes tail whole) (omega arith)
+module _ (bytes l : ℕ) (tail : List ℕ) (size : length tail ≡ bytes % 64) where
+  pub piece-fits : bytes + l ≤ longestMessage → length tail + l < 2 ^ 60
+  piece-fits h = omega arith
 
-  pub piece-room : (d at have : ℕ) → at + (bytes % 64 + l) / 64 * d ≤ have
-      → at + (length (take (bytes % 64 - 0) tail) + l) / 64 * d ≤ have
-  piece-room d at have h = rw (tail-size bytes tail whole) h
+  pub piece-room : (d at have : ℕ) → at + (bytes % 64 + l) / 64 * d ≤ have → at + (length tail + l) / 64 * d ≤ have
+  piece-room d at have h = rw size h
 
-  pub piece-place : (d at p : ℕ) → p ≡ at + (length (take (bytes % 64 - 0) tail) + l) / 64 * d
-      → p ≡ at + (bytes % 64 + l) / 64 * d
-  piece-place d at p e = rw (tail-size bytes tail whole) at e
+  pub piece-place : (d at p : ℕ) → p ≡ at + (length tail + l) / 64 * d → p ≡ at + (bytes % 64 + l) / 64 * d
+  piece-place d at p e = rw size at e
 
 -- the bytes after the last full block, stored in front of zeros
 module _ (tail piece z : List ℕ) where
@@ -135,7 +132,7 @@ module _ (tail piece z : List ℕ) where
       rw (last, over, zeros-after 64 left (omega arith))
 
 pub feed-made : (s : State) (piece ws tail rest : List ℕ) (at p : ℕ) (inner : Chain) (r : State)
-    → tail ≡ take (s .bytes % 64 - 0) (s .tail)
+    → tail ≡ take (s .bytes % 64) (s .tail)
     → fullBlocks hash (s .n) ((length tail + length piece) / 64) (tail ++ piece)
     (used (s .n) (s .inner .shares)) ws at
     ≡ (used (s .n) (inner .shares), p)
@@ -153,5 +150,4 @@ pub feed-made : (s : State) (piece ws tail rest : List ℕ) (at p : ℕ) (inner 
     → feed hash s piece ws at ≡ (r, p)
 unfolding feed state used
 feed-made s piece ws tail rest at p inner r waits full ends is =
-    let waited : tail ≡ take (s .bytes % 64) (s .tail) = waits ∙ rw (sub-zero (s .bytes % 64)) in
-    rw (is, ← waited, length-append tail piece, full, ends)
+    rw (is, ← waits, length-append tail piece, full, ends)

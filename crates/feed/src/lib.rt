@@ -21,6 +21,7 @@ use rules::State;
 use sha1::Stepped;
 use states::Moved;
 use states::state_of;
+use states::waiting;
 
 // Byte i of the bytes that wait and then the piece.
 fn byte_of(tail: &[u8], piece: &[u8], i: usize) -> u8
@@ -124,9 +125,8 @@ fn feed_at(state: State, piece: &[u8], words: &[u32], at: usize) -> Moved
     ensures { λ r. ⌜ (feed hash state (now (piece .entry)) (now (words .entry)) at ≡ (r .state, r .at))
         × (r .at ≡ at + feedDraws hash (state .n) (state .bytes) (length (now (piece .entry)))) ⌝ }
 {
-    let waiting = state.bytes % BLOCK_BYTES;
     let all = state.tail;
-    let tail = &all[0..waiting];
+    let tail = waiting(&all, state.bytes);
     let made = full_blocks(state.n, state.inner, tail, piece, words, at);
     let rest = rest_of(tail, piece);
     let after = state.bytes + piece.len();

@@ -1,6 +1,7 @@
-// States: made anew, of zeros, and after their tag was handed out.
+// States: made anew, of zeros, after their tag was handed out; and which of their bytes wait.
 ghost use mathlib.Core.Path.{_≡_};
-ghost use Prim.Native.Nat.{_≤_, _<_};
+ghost use Prim.Native.Nat.{_%_, _≤_, _<_};
+ghost use lib.ListN.{length, take};
 ghost use Rattle.rules.specs.Numbers.{largest, longestMessage};
 ghost use Rattle.rules.specs.Sha1.{chainRoom, used};
 ghost use Rattle.rules.specs.Hash.{filled};
@@ -81,6 +82,15 @@ pub fn finished(state: State) -> State
         outer: outer,
         tail: tail,
     }
+}
+
+// The bytes of a tail that wait, of the block that is not yet full, where so many bytes were fed.
+pub fn waiting(tail: &[u8], bytes: usize) -> &[u8]
+    requires { ⌜ length (now tail) ≡ 64 ⌝ }
+    ensures { λ r. ⌜ (now r ≡ take (bytes % 64) (now (tail .entry))) × (length (now r) ≡ bytes % 64) ⌝ }
+{
+    let end = bytes % BLOCK_BYTES;
+    &tail[0..end]
 }
 
 // A state, and the place after the words that went into it.

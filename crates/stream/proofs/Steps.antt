@@ -1,9 +1,9 @@
 -- The steps of start and finish, each made from its parts, and how many words they draw.
 use Prim.Native.Nat.{ℕ, _+_, _-_, _*_, _/_, _%_, _^_, _≤_, _<_}
-use mathlib.Core.Path.{_≡_, refl, _∙_}
-use mathlib.Core.List.{List, _++_, map}
+use mathlib.Core.Path.{_≡_, refl, ap, _∙_}
+use mathlib.Core.List.{List, _++_}
 use native.Mathlib.Omega.{arith}
-use native.Mathlib.Nat.{sub-zero, add-mul}
+use native.Mathlib.Nat.{add-mul}
 use lib.ListN.{length, take, replicate}
 use Rattle.rules.specs.declared.Chain.{Chain}
 use Rattle.rules.specs.declared.State.{State}
@@ -18,7 +18,6 @@ use Rattle.rules.proofs.Hashes.{ending-blocks}
 use Rattle.rules.proofs.Tags.{sha1-proper}
 use Rattle.hash.specs.Hash.{hash}
 use Rattle.padding.specs.Whole.{blocksIn}
-use Rattle.states.proofs.Tails.{tail-size}
 
 -- ---- a state after both key blocks
 pub start-made : (n : ℕ) (key ws : List ℕ) (at p q : ℕ) (i o : Chain) (s : State)
@@ -39,31 +38,31 @@ unfolding start state numberOf
 start-made n key ws at p q i o s a b is = rw (a, b, is)
 
 -- ---- the rest of a message
-module _ (bytes : ℕ) (tail : List ℕ) (whole : length (map (λ (v : ℕ). v) tail) ≡ 64) where
-  pub last-fits : bytes ≤ longestMessage → (bytes / 64 + 1) * 64 + length (take (bytes % 64 - 0) tail) < 2 ^ 60
-  last-fits h = rw (tail-size bytes tail whole) (omega arith)
+module _ (bytes : ℕ) (tail : List ℕ) (size : length tail ≡ bytes % 64) where
+  pub last-fits : bytes ≤ longestMessage → (bytes / 64 + 1) * 64 + length tail < 2 ^ 60
+  last-fits h = omega arith
 
-  pub last-room : (d at have : ℕ) → at + ((bytes % 64 + 8) / 64 + 2) * d ≤ have
-      → at + blocksIn (length (take (bytes % 64 - 0) tail)) * d ≤ have
-  last-room d at have h =
-      let q = (bytes % 64 + 8) / 64 in
-      rw (tail-size bytes tail whole) (omega (arith, add-mul q 1 d, add-mul q 2 d))
+  -- the place after the last blocks of the message, and after the digest block
+  module _ (d at : ℕ) where
+    abbrev m : ℕ
+    m = (bytes % 64 + 8) / 64
 
-  pub digest-room : (d at have p : ℕ) → at + ((bytes % 64 + 8) / 64 + 2) * d ≤ have
-      → p ≡ at + blocksIn (length (take (bytes % 64 - 0) tail)) * d → p + d ≤ have
-  digest-room d at have p h e =
-      let q = (bytes % 64 + 8) / 64 in
-      omega (arith, rw (tail-size bytes tail whole) at e, add-mul q 1 d, add-mul q 2 d)
+    all-blocks : at + blocksIn (length tail) * d + d ≡ at + (m + 2) * d
+    all-blocks = rw size (omega (arith, add-mul m 1 d, add-mul m 2 d))
 
-  pub finish-place : (d at p q : ℕ) → p ≡ at + blocksIn (length (take (bytes % 64 - 0) tail)) * d → q ≡ p + d
-      → q ≡ at + ((bytes % 64 + 8) / 64 + 2) * d
-  finish-place d at p q e f =
-      let m = (bytes % 64 + 8) / 64 in
-      omega (arith, rw (tail-size bytes tail whole) at e, add-mul m 1 d, add-mul m 2 d)
+    pub last-room : (have : ℕ) → at + (m + 2) * d ≤ have → at + blocksIn (length tail) * d ≤ have
+    last-room have h = omega (arith, all-blocks)
+
+    module _ (p : ℕ) (e : p ≡ at + blocksIn (length tail) * d) where
+      pub digest-room : (have : ℕ) → at + (m + 2) * d ≤ have → p + d ≤ have
+      digest-room have h = omega (arith, all-blocks)
+
+      pub finish-place : (q : ℕ) → q ≡ p + d → q ≡ at + (m + 2) * d
+      finish-place q f = f ∙ ap (λ t. t + d) e ∙ all-blocks
 
 -- ---- the tag: the rest of the message with its padding, then the digest block
 pub finish-made : (s : State) (ws tail tag : List ℕ) (at p q : ℕ) (inner last : Chain)
-    → tail ≡ take (s .bytes % 64 - 0) (s .tail)
+    → tail ≡ take (s .bytes % 64) (s .tail)
     → blocks hash (s .n) (blocksIn (length tail))
     (publics (s .n) (ending (hash .standard) ((s .bytes / 64 + 1) * 64) tail))
     (used (s .n) (s .inner .shares)) ws at
@@ -75,6 +74,5 @@ pub finish-made : (s : State) (ws tail tag : List ℕ) (at p q : ℕ) (inner las
     → finish hash s ws at ≡ (tag, q)
 unfolding finish used
 finish-made s ws tail tag at p q inner last waits text digest opened =
-    let waited : tail ≡ take (s .bytes % 64) (s .tail) = waits ∙ rw (sub-zero (s .bytes % 64)) in
     let m = s .bytes / 64 + 1 in
-    rw (← waited, ending-blocks (SHA1 32) (sha1-proper 32) m (m * 64) refl tail, text, digest, opened)
+    rw (← waits, ending-blocks (SHA1 32) (sha1-proper 32) m (m * 64) refl tail, text, digest, opened)

@@ -14,6 +14,7 @@ use rules::BLOCK_WORDS;
 use rules::State;
 use states::Moved;
 use states::state_of;
+use states::waiting;
 
 // The inner key block, then the outer one, from the word at `at` on.
 pub fn start_at(n: usize, key: &[u32], words: &[u32], at: usize) -> Moved
@@ -42,9 +43,8 @@ pub fn finish_at(state: State, tag: &mut [u8], words: &[u32], at: usize) -> usiz
 {
     let n = state.n;
     let bytes = state.bytes;
-    let waiting = bytes % BLOCK_BYTES;
     let all = state.tail;
-    let tail = &all[0..waiting];
+    let tail = waiting(&all, bytes);
     let before = (bytes / BLOCK_BYTES + 1) * BLOCK_BYTES;
     let end = BLOCK_WORDS * n;
     let mut block0 = [0u32; BLOCK];

@@ -1,6 +1,5 @@
 -- the full blocks compressed, and the rest in front of zeros
 use borrow.Author.Needs.{needs}
-use Rattle.states.proofs.Tails.{tail-room}
 use Rattle.feed.proofs.Steps.{piece-fits, piece-room, piece-place, feed-made}
 use Rattle.feed.proofs.feed_at.Statement.{statement}
 use Rattle.feed.proofs.feed_at.Tie as tie
@@ -10,8 +9,7 @@ feed-at-spec =
     tie.close
     (tie.spec
     (λ c. search needs)
-    (λ c. search needs)
-    (λ c. search tail-room)
+    (λ c κs. search needs)
     (λ c κs. (search needs, search needs, search piece-fits, search piece-room))
     (λ c κs. search piece-fits)
     (λ c. search needs)

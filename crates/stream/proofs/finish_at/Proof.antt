@@ -1,7 +1,6 @@
 -- the rest of the message, the digest block, and the tag opened
 use borrow.Author.Needs.{needs}
 use native.Mathlib.Omega.{arith}
-use Rattle.states.proofs.Tails.{tail-room}
 use Rattle.stream.proofs.Steps.{last-fits, last-room, digest-room, finish-made, finish-place}
 use Rattle.stream.proofs.finish_at.Statement.{statement}
 use Rattle.stream.proofs.finish_at.Tie as tie
@@ -11,8 +10,7 @@ finish-at-spec =
     tie.close
     (tie.spec
     (λ c. search needs)
-    (λ c. search needs)
-    (λ c. search tail-room)
+    (λ c κs. search needs)
     (λ c. search needs)
     (λ c. search needs)
     (λ c. search needs)
