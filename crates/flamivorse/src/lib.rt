@@ -365,7 +365,11 @@ pub extern "C" fn flamivorse_hmac_sha1_finish(
     );
     let number = finishing(need, tag.len(), words.len());
     if number != DONE {
-        return streamed(number, 0, state);
+        return Streamed {
+            number: number,
+            drawn: 0,
+            state: state,
+        };
     }
     let drawn = stream::finish_at(state, tag, words, 0);
     streamed(DONE, drawn, states::finished(state))

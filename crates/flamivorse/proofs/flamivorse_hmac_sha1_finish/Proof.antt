@@ -11,5 +11,5 @@ finish-at-requires c κs =
 
 pub flamivorse-hmac-sha1-finish-spec : {M : Type 1} → statement M
 flamivorse-hmac-sha1-finish-spec =
-    tie.close (tie.spec (λ c κs. search needs) (λ c κs. search needs) (λ c κs. search needs) (λ c. search finish-refused)
+    tie.close (tie.spec (λ c κs. search needs) (λ c κs. search needs) (λ c. search finish-refused)
     finish-at-requires (λ c κs. search needs) (λ c κs. search needs) (λ c. search needs) (λ c. search finish-done))
