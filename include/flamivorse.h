@@ -28,7 +28,8 @@
  *   3  an output slice or record has not exactly its length
  *   4  the message is over 65,536 bytes, or the key given for splitting is over 1,024
  *   5  fewer words are lent than the call draws
- *   6  the state is finished, its share count is 0 or over 16, or its byte count is over 65,536
+ *   6  the state is finished, its share count is 0 or over 16, its byte count is over 65,536, its hash is not the
+ *      call's, or its count of words is not what start and feeds draw for these
  * A refusal reports 0 words drawn and leaves every slice as it came. Where a call takes a state, 1 is never given.
  *
  * What stays behind: a call leaves shares on the stack below its caller and in registers, and splitting may leave bytes
@@ -67,12 +68,13 @@ typedef struct { uint32_t number; uint64_t drawn; flamivorse_chain chain; } flam
 
 /* What is carried from piece to piece of a message. It is a value: each copy can be fed or finished by itself, with
  * words of its own, and the one from before a finish can be finished again. Both chains come from the key, and whoever
- * has them can make tags under it: a program clears its copies of a state as it clears the key's shares. Compare two
- * states by their fields: the layout has four bytes that belong to none. */
+ * has them can make tags under it: a program clears its copies of a state as it clears the key's shares. */
 typedef struct {
     size_t n;                  /* the share count */
     uint64_t bytes;            /* how many bytes of the message were fed so far */
+    uint64_t drawn;            /* how many words start and feeds drew: those of 2 + bytes / 64 compressions */
     uint32_t finished;         /* 0; 1 after an accepted finish; anything but 0 counts as finished */
+    uint32_t hash;             /* the hash that it belongs to: 0 is SHA-1, and no other number is one */
     flamivorse_chain inner;    /* after the inner key block and the full blocks of the message */
     flamivorse_chain outer;    /* after the outer key block */
     uint8_t tail[64];          /* the bytes of the block that is not yet full: the first bytes % 64 */
@@ -178,26 +180,29 @@ flamivorse_answer flamivorse_hmac_sha1(size_t n, const uint32_t *key, size_t key
  * in another order. Any state may be given: one that is not refused with 6 is taken as it stands. */
 
 /* The state before the first byte, under a key of 16n words as flamivorse_split_key writes it: the inner key block is
- * compressed, then the outer one. Draws the words of 2 compressions. Refuses with 1, 2 (the key), 5. */
+ * compressed, then the outer one. Draws the words of 2 compressions, and the state's drawn says so.
+ * Refuses with 1, 2 (the key), 5. */
 flamivorse_streamed flamivorse_hmac_sha1_start(size_t n, const uint32_t *key, size_t key_len,
                                                const uint32_t *words, size_t words_len);
 
 /* The state after one more piece, of any length: each block that becomes full is compressed at once, and the bytes
- * after it wait in the tail. Draws the words of a compression for each such block. Chain words from place 5n on and
- * tail bytes from bytes % 64 on are not looked at, and are 0 in an accepted answer, of an empty piece too.
+ * after it wait in the tail. Draws the words of a compression for each such block, and adds them to the state's drawn.
+ * Chain words from place 5n on and tail bytes from bytes % 64 on are not looked at, and are 0 in an accepted answer, of
+ * an empty piece too.
  * Refuses with 6, 4 (all pieces together would be over 65,536 bytes), 5, in this order. */
 flamivorse_streamed flamivorse_hmac_sha1_feed(flamivorse_state state, const uint8_t *piece, size_t piece_len,
                                               const uint32_t *words, size_t words_len);
 
 /* The tag of all that was fed: writes it opened, of 20 bytes. Nothing else is opened. Draws the words of 2
  * compressions, or of 3 where bytes % 64 is over 55. The state handed back is the one given but for finished, which is
- * 1: nothing of it is cleared. Refuses with 6, 3 (the tag), 5, in this order. */
+ * 1: these words are not added to its drawn, and nothing of it is cleared.
+ * Refuses with 6, 3 (the tag), 5, in this order. */
 flamivorse_streamed flamivorse_hmac_sha1_finish(flamivorse_state state, uint8_t *tag, size_t tag_len,
                                                 const uint32_t *words, size_t words_len);
 
 /* How many words a call draws: number 0 and the count, or the number with which the call refuses such an n (1), length
  * (4) or state (6), and 0. Lending as many words is always enough, and one word less is always refused with 5. Of a
- * state only n, bytes and finished are looked at, so that its chains need not be handed to a query. */
+ * state only n, bytes, drawn, finished and hash are looked at, so that its chains need not be handed to a query. */
 flamivorse_answer flamivorse_split_words(size_t n);
 flamivorse_answer flamivorse_refresh_words(size_t n);
 flamivorse_answer flamivorse_expand_words(size_t n);

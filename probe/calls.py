@@ -7,7 +7,7 @@ from inputs import Secret, Share, Shares, SharesByValue, Text
 
 CHAIN = 80  # words of a chain record
 COMPRESSED = Result(4 + CHAIN)  # number, count and chain
-STREAMED = Result(26 + 2 * CHAIN)  # number, count and state
+STREAMED = Result(28 + 2 * CHAIN)  # number, count and state
 SHORT_COUNTS = (1, 2, 4, 8)  # of the short conversion
 
 
@@ -64,10 +64,11 @@ def sha1_compress(n, quick=0, deep=0):
 
 
 def state(n, fed):
-    """A state after so many bytes, a struct passed by value. Its chains are secrets; the message never is one."""
+    """A fit state after so many bytes, a struct passed by value. Its chains are secrets; the message never is one."""
+    drawn, finished, sha1 = (2 + fed // 64) * compress_words(n), 0, 0
+    numbers = BytesByValue(struct.pack("<QQQII", n, fed, drawn, finished, sha1))
     inner, outer = (SharesByValue(Secret(name, n, words=5), CHAIN) for name in ("inner", "outer"))
-    tail = bytes(range(fed % 64)).ljust(64 + 4, b"\0")
-    return BytesByValue(struct.pack("<QQI", n, fed, 0)), inner, outer, BytesByValue(tail)
+    return numbers, inner, outer, BytesByValue(bytes(range(fed % 64)).ljust(64, b"\0"))
 
 
 def streaming(n, quick=0, deep=0):

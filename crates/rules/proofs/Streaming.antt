@@ -43,8 +43,9 @@ pub state-count : (M : Masked) (n bytes : ℕ) → blockBytes (M .standard) ≡ 
     → stateDraws M n bytes ≡ (2 + bytes / 64) * M .draws n
 unfolding stateDraws
 state-count M n bytes sixty-four =
+    let d = M .draws n in
     let whole : (0 % 64 + bytes) / 64 ≡ bytes / 64 = omega arith in
-    rw (sixty-four, whole) (sym (add-mul 2 (bytes / 64) (M .draws n)))
+    rw sixty-four (ap (λ q. 2 * d + q * d) whole ∙ sym (add-mul 2 (bytes / 64) d))
 
 -- with a piece more
 pub state-next : (M : Masked) (n bytes l : ℕ) → blockBytes (M .standard) ≡ 64

@@ -39,8 +39,9 @@ start-made n key ws at p q i o s a b is = rw (a, b, is)
 
 -- ---- the rest of a message
 module _ (bytes : ℕ) (tail : List ℕ) (size : length tail ≡ bytes % 64) where
-  pub last-fits : bytes ≤ longestMessage → (bytes / 64 + 1) * 64 + length tail < 2 ^ 60
-  last-fits h = omega arith
+  pub last-fits : (before : ℕ) → bytes ≤ longestMessage → before ≤ (bytes / 64 + 1) * 64
+      → before + length tail < 2 ^ 60
+  last-fits before h l = omega arith
 
   -- the place after the last blocks of the message, and after the digest block
   module _ (d at : ℕ) where

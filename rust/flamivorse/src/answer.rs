@@ -49,8 +49,9 @@ pub enum Refusal {
     TooLong,
     /// Number 5: fewer random words are lent than the call draws.
     SupplyShort,
-    /// Number 6: the state is finished, its share count is 0 or over 16, or its byte count is over
-    /// 65,536.
+    /// Number 6: the state is finished, its share count is 0 or over 16, its byte count is over
+    /// 65,536, its hash is not the call's, or its count of words is not what a start and feeds draw
+    /// for these.
     StateUnfit,
     /// Another number. No call hands one back; it would mean an archive of another version.
     Unknown(u32),
@@ -85,7 +86,7 @@ impl fmt::Display for Refusal {
             Refusal::TooLong => "the message is over 65,536 bytes, or the key is over 1,024",
             Refusal::SupplyShort => "there are fewer random words than the call draws",
             Refusal::StateUnfit => {
-                "the state is finished, or its share count or byte count is not allowed"
+                "the state is finished or of another hash, or its share, byte or word count is wrong"
             }
             Refusal::Unknown(number) => {
                 return write!(f, "the archive gave the unknown number {number}")

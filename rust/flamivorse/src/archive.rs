@@ -94,8 +94,13 @@ pub struct State {
     pub n: usize,
     /// How many bytes of the message were fed so far.
     pub bytes: u64,
+    /// How many words the start and the feeds drew: those of 2 + `bytes` / 64 compressions, and with
+    /// any other count the state is unfit. A finish adds nothing.
+    pub drawn: u64,
     /// 0; 1 after an accepted finish. Anything but 0 counts as finished.
     pub finished: u32,
+    /// The hash that the state belongs to: 0 is SHA-1, and no other number is one.
+    pub hash: u32,
     /// The chain after the inner key block and the full blocks of the message.
     pub inner: Chain,
     /// The chain after the outer key block.
@@ -111,7 +116,9 @@ impl Default for State {
         State {
             n: 0,
             bytes: 0,
+            drawn: 0,
             finished: 0,
+            hash: 0,
             inner: Chain::default(),
             outer: Chain::default(),
             tail: [0; 64],
@@ -130,7 +137,9 @@ impl fmt::Debug for State {
         f.debug_struct("State")
             .field("n", &self.n)
             .field("bytes", &self.bytes)
+            .field("drawn", &self.drawn)
             .field("finished", &self.finished)
+            .field("hash", &self.hash)
             .finish_non_exhaustive()
     }
 }

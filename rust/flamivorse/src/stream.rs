@@ -69,8 +69,8 @@ pub fn hmac_sha1_feed(state: &mut State, piece: &[u8], words: &[u32]) -> Result<
     })
 }
 
-/// Writes the tag of all that was fed, and marks the state as finished. A refusal leaves both as
-/// they came.
+/// Writes the tag of all that was fed, and marks the state as finished, which is all that changes in
+/// it. A refusal leaves both as they came.
 ///
 /// `tag` has [`TAG_BYTES`] bytes. The tag is opened, and nothing else. A copy of the state from
 /// before can be fed further or finished again.
@@ -108,13 +108,15 @@ queries! {
 /// How many words [`hmac_sha1_feed`] draws for a piece of `piece_len` bytes.
 ///
 /// ```
-/// use flamivorse::{hmac_sha1_feed_words, Refusal, State, MESSAGE_LIMIT};
+/// use flamivorse::{hmac_sha1_feed_words, hmac_sha1_start, Refusal, State, MESSAGE_LIMIT};
+/// # let (key, words) = ([0; 32], [0; 20_880]);
 ///
 /// let mut state = State::default();
 /// assert_eq!(hmac_sha1_feed_words(&state, 1), Err(Refusal::StateUnfit));
-/// (state.n, state.bytes) = (2, MESSAGE_LIMIT as u64 - 1);
-/// assert_eq!(hmac_sha1_feed_words(&state, 1)?.words(), 10_440);
-/// assert_eq!(hmac_sha1_feed_words(&state, 2), Err(Refusal::TooLong));
+/// hmac_sha1_start(2, &key, &mut state, &words)?;
+/// assert_eq!(hmac_sha1_feed_words(&state, 63)?.words(), 0);
+/// assert_eq!(hmac_sha1_feed_words(&state, 64)?.words(), 10_440);
+/// assert_eq!(hmac_sha1_feed_words(&state, MESSAGE_LIMIT + 1), Err(Refusal::TooLong));
 /// # Ok::<(), Refusal>(())
 /// ```
 pub fn hmac_sha1_feed_words(state: &State, piece_len: usize) -> Result<Drawn, Refusal> {
@@ -124,12 +126,14 @@ pub fn hmac_sha1_feed_words(state: &State, piece_len: usize) -> Result<Drawn, Re
 /// How many words [`hmac_sha1_finish`] draws.
 ///
 /// ```
-/// use flamivorse::{hmac_sha1_finish_words, State};
+/// use flamivorse::{hmac_sha1_feed, hmac_sha1_finish_words, hmac_sha1_start, State};
+/// # let (key, words) = ([0; 32], [0; 20_880]);
 ///
 /// let mut state = State::default();
-/// (state.n, state.bytes) = (2, 55);
+/// hmac_sha1_start(2, &key, &mut state, &words)?;
+/// hmac_sha1_feed(&mut state, &[0; 55], &[])?;
 /// assert_eq!(hmac_sha1_finish_words(&state)?.words(), 20_880);
-/// state.bytes = 56;
+/// hmac_sha1_feed(&mut state, &[0], &[])?;
 /// assert_eq!(hmac_sha1_finish_words(&state)?.words(), 31_320);
 /// # Ok::<(), flamivorse::Refusal>(())
 /// ```
@@ -140,7 +144,8 @@ pub fn hmac_sha1_finish_words(state: &State) -> Result<Drawn, Refusal> {
 /// All of a state that a query looks at, so that no share is copied for it.
 fn outline(state: &State) -> State {
     let mut outline = State::default();
-    (outline.n, outline.bytes, outline.finished) = (state.n, state.bytes, state.finished);
+    (outline.n, outline.bytes, outline.drawn) = (state.n, state.bytes, state.drawn);
+    (outline.finished, outline.hash) = (state.finished, state.hash);
     outline
 }
 

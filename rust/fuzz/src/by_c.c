@@ -6,9 +6,9 @@
 typedef struct { uint32_t *start; size_t length; } lent_words;
 typedef struct { uint8_t *start; size_t length; } lent_bytes;
 
-/* What a query looks at of a state: share count, bytes so far, mark. Calls without a state have the share count alone.
- * lent.rs has the same struct. */
-typedef struct { size_t n; uint64_t fed; uint32_t finished; } outline;
+/* What a query looks at of a state: share count, bytes and words so far, mark, hash. Calls without a state have the
+ * share count alone. lent.rs has the same struct. */
+typedef struct { size_t n; uint64_t fed, drawn; uint32_t finished, hash; } outline;
 
 /* All that a call can be lent; by_c.rs has the same struct. */
 typedef struct {
@@ -56,10 +56,11 @@ static outcome compressed(arguments *a, flamivorse_compressed answer)
 /* So does the state. */
 static outcome streamed(arguments *a, flamivorse_streamed answer)
 {
-    a->state = (outline){answer.state.n, answer.state.bytes, answer.state.finished};
-    *a->chain = answer.state.inner;
-    *a->outer = answer.state.outer;
-    memcpy(a->tail, answer.state.tail, sizeof answer.state.tail);
+    const flamivorse_state *state = &answer.state;
+    a->state = (outline){state->n, state->bytes, state->drawn, state->finished, state->hash};
+    *a->chain = state->inner;
+    *a->outer = state->outer;
+    memcpy(a->tail, state->tail, sizeof state->tail);
     return (outcome){answer.number, answer.drawn};
 }
 
@@ -70,7 +71,9 @@ static flamivorse_state outlined(outline state)
     memset(&made, 0xa5, sizeof made);
     made.n = state.n;
     made.bytes = state.fed;
+    made.drawn = state.drawn;
     made.finished = state.finished;
+    made.hash = state.hash;
     return made;
 }
 

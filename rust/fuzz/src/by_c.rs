@@ -47,7 +47,7 @@ fn c_name(name: &str) -> CString {
 /// Makes the call of this name.
 pub fn make(name: &str, a: &mut Arguments) -> Outcome {
     let mut given = Given {
-        state: a.outline(),
+        state: a.state,
         values: a.values,
         inputs: a.inputs.each_mut().map(Slice::from),
         output: (&mut a.output).into(),
@@ -61,8 +61,7 @@ pub fn make(name: &str, a: &mut Arguments) -> Outcome {
     // SAFETY: each slice is a memory of its own, borrowed for the call, and no pointer is null,
     // since the guards are always there. The chains and the tail have the lengths of the header's.
     let outcome = unsafe { make_by_c(c_name(name).as_ptr(), &mut given) };
-    let Outline { n, fed, finished } = given.state;
-    (a.n, a.fed, a.finished) = (n, fed, finished);
+    a.state = given.state;
     outcome
 }
 

@@ -221,7 +221,8 @@ macro_rules! both {
 fn archive_compress(a: &mut Arguments) -> Outcome {
     let shares = a.chain_words();
     let mut chain = Chain { shares };
-    let answer = flamivorse::sha1_compress(a.n, &mut chain, a.inputs[0].slice(), a.words.slice());
+    let answer =
+        flamivorse::sha1_compress(a.state.n, &mut chain, a.inputs[0].slice(), a.words.slice());
     a.chain.slice_mut().copy_from_slice(&chain.shares);
     answer.into()
 }
@@ -230,7 +231,7 @@ fn archive_compress(a: &mut Arguments) -> Outcome {
 fn second_compress(a: &mut Arguments) -> Outcome {
     let shares = a.chain_words();
     let chain = second::Chain { shares };
-    let answer = second::sha1_compress(a.n, chain, a.inputs[0].slice(), a.words.slice());
+    let answer = second::sha1_compress(a.state.n, chain, a.inputs[0].slice(), a.words.slice());
     a.chain.slice_mut().copy_from_slice(&answer.chain.shares);
     Outcome {
         number: answer.number,
@@ -248,7 +249,7 @@ const OPENING: Call = Call {
     output: 0,
     record: 0,
     tag: 0,
-    made: both!(|a| open_xor(a.n, a.inputs[0].slice())),
+    made: both!(|a| open_xor(a.state.n, a.inputs[0].slice())),
     query: None,
 };
 
@@ -307,14 +308,19 @@ pub static CALLS: [Call; 13] = [
     OPENING,
     Call {
         name: "open_sum",
-        made: both!(|a| open_sum(a.n, a.inputs[0].slice())),
+        made: both!(|a| open_sum(a.state.n, a.inputs[0].slice())),
         ..OPENING
     },
     Call {
         name: "split",
         inputs: [0, 0],
         output: 1,
-        made: both!(|a| split(a.n, a.values[0], a.output.slice_mut(), a.words.slice())),
+        made: both!(|a| split(
+            a.state.n,
+            a.values[0],
+            a.output.slice_mut(),
+            a.words.slice()
+        )),
         query: Some(both!(|state, _bytes| split_words(state.n))),
         ..OPENING
     },
@@ -322,7 +328,7 @@ pub static CALLS: [Call; 13] = [
         name: "refresh",
         output: 1,
         made: both!(|a| refresh(
-            a.n,
+            a.state.n,
             a.inputs[0].slice(),
             a.output.slice_mut(),
             a.words.slice()
@@ -334,7 +340,7 @@ pub static CALLS: [Call; 13] = [
         name: "expand",
         output: 2,
         made: both!(|a| expand(
-            a.n,
+            a.state.n,
             a.inputs[0].slice(),
             a.output.slice_mut(),
             a.words.slice()
@@ -347,7 +353,7 @@ pub static CALLS: [Call; 13] = [
         inputs: [1, 1],
         output: 1,
         made: both!(|a| and(
-            a.n,
+            a.state.n,
             a.inputs[0].slice(),
             a.inputs[1].slice(),
             a.output.slice_mut(),
@@ -361,7 +367,7 @@ pub static CALLS: [Call; 13] = [
         inputs: [1, 1],
         output: 1,
         made: both!(|a| add(
-            a.n,
+            a.state.n,
             a.inputs[0].slice(),
             a.inputs[1].slice(),
             a.output.slice_mut(),
@@ -374,7 +380,7 @@ pub static CALLS: [Call; 13] = [
         name: "a2b",
         output: 1,
         made: both!(|a| a2b(
-            a.n,
+            a.state.n,
             a.inputs[0].slice(),
             a.output.slice_mut(),
             a.words.slice()
@@ -386,7 +392,7 @@ pub static CALLS: [Call; 13] = [
         name: "b2a",
         output: 1,
         made: both!(|a| b2a(
-            a.n,
+            a.state.n,
             a.inputs[0].slice(),
             a.output.slice_mut(),
             a.words.slice()
@@ -399,7 +405,7 @@ pub static CALLS: [Call; 13] = [
         counts: &B2A_SHORT_COUNTS,
         output: 1,
         made: both!(|a| b2a_short(
-            a.n,
+            a.state.n,
             a.inputs[0].slice(),
             a.output.slice_mut(),
             a.words.slice()
@@ -412,7 +418,12 @@ pub static CALLS: [Call; 13] = [
         inputs: [0, 0],
         limit: Some(KEY_LIMIT),
         output: 16,
-        made: both!(|a| split_key(a.n, a.bytes.slice(), a.output.slice_mut(), a.words.slice())),
+        made: both!(|a| split_key(
+            a.state.n,
+            a.bytes.slice(),
+            a.output.slice_mut(),
+            a.words.slice()
+        )),
         query: Some(both!(|state, bytes| split_key_words(state.n, bytes))),
         ..OPENING
     },
@@ -429,7 +440,7 @@ pub static CALLS: [Call; 13] = [
         limit: Some(MESSAGE_LIMIT),
         tag: TAG_BYTES,
         made: both!(|a| hmac_sha1(
-            a.n,
+            a.state.n,
             a.inputs[0].slice(),
             a.bytes.slice(),
             a.tag.slice_mut(),
@@ -472,12 +483,17 @@ pub static STREAM_CALLS: [Call; 3] = [
         made: [
             |a| {
                 by_archive(a, State::default(), |state, a| {
-                    flamivorse::hmac_sha1_start(a.n, a.inputs[0].slice(), state, a.words.slice())
+                    flamivorse::hmac_sha1_start(
+                        a.state.n,
+                        a.inputs[0].slice(),
+                        state,
+                        a.words.slice(),
+                    )
                 })
             },
             |a| {
                 by_second(a, |_, a| {
-                    second::hmac_sha1_start(a.n, a.inputs[0].slice(), a.words.slice())
+                    second::hmac_sha1_start(a.state.n, a.inputs[0].slice(), a.words.slice())
                 })
             },
         ],

@@ -2,7 +2,7 @@
 //! wrong ones mixed. A seed and a number give the same case on every machine.
 
 use crate::calls::{quick_message, Call, Outcome, Target, CALLS, STREAM_CALLS, TWO_SHARE_CALLS};
-use crate::lent::{Arguments, Lengths, Outline};
+use crate::lent::{compression_words, Arguments, Lengths, Outline};
 use crate::random::Random;
 use flamivorse::{KEY_LIMIT, MESSAGE_LIMIT, SHARES_LIMIT};
 
@@ -116,19 +116,26 @@ fn made_on_state(random: &mut Random) -> Case {
     Case { call, asked }
 }
 
-/// A state, mostly a fit one.
+/// A state, mostly a fit one; else it has too many bytes, or one of its other numbers is wrong.
 fn made_up(call: &Call, random: &mut Random) -> Outline {
-    Outline {
-        n: fitting(call, random),
-        fed: fed(random),
-        finished: mark(random),
+    let mut state = Outline::of(fitting(call, random), fed(random));
+    match random.below(64) {
+        0 => state.finished = code(random),
+        1 => state.hash = code(random),
+        2 | 3 => state.drawn = other_words(state, random),
+        _ => {}
     }
+    state
 }
 
-/// The same with the share count that is given.
+/// The same with the share count that is given. Where that is another, the words are of either count.
 fn with_count(call: &Call, state: Outline, random: &mut Random) -> Outline {
-    let n = count(call, state.n, random);
-    Outline { n, ..state }
+    let mut given = state;
+    given.n = count(call, state.n, random);
+    if given.n != state.n && random.below(2) == 0 {
+        given.drawn = Outline::of(given.n, given.fed).drawn;
+    }
+    given
 }
 
 /// How many bytes a state has: few, nearly all, or around the ends of blocks and of their padding;
@@ -152,13 +159,31 @@ fn fed(random: &mut Random) -> u64 {
     }
 }
 
-/// The mark of a state: mostly none; else one that a finish makes, one bit, or any.
-fn mark(random: &mut Random) -> u32 {
-    match random.below(64) {
+/// A mark or a hash that is not 0: 1, one bit, or any.
+fn code(random: &mut Random) -> u32 {
+    match random.below(4) {
         0 | 1 => 1,
         2 => 1 << random.below(32),
-        3 => random.word(),
-        _ => 0,
+        _ => random.word(),
+    }
+}
+
+/// A wrong count of words: one word or one compression off, with those of a finish, of another share
+/// count, right where a number is cut, near 2^64, or any. At one share, where a compression draws
+/// none, it is that of two.
+fn other_words(state: Outline, random: &mut Random) -> u64 {
+    let (right, compression) = (state.drawn, compression_words(state.n.max(2)));
+    match random.below(10) {
+        0 => right.wrapping_add(1),
+        1 => right.wrapping_sub(1),
+        2 => right.wrapping_add(compression),
+        3 => right.wrapping_sub(compression),
+        4 => right.wrapping_add(compression * (2 + random.below(2) as u64)),
+        5 => Outline::of(near_count(random), state.fed).drawn,
+        6 => right.wrapping_add(1 << 32),
+        7 => right.wrapping_add(1 << (32 + random.below(32))),
+        8 => u64::MAX - random.below(64) as u64,
+        _ => random.number() as u64,
     }
 }
 

@@ -75,35 +75,50 @@ impl<T: Clone> Lent<T> {
     }
 }
 
-/// What a query looks at of a state: its share count, its bytes so far and its mark. Calls without a
-/// state have the share count alone.
+/// How many words a compression draws at n shares, modulo 2^64.
+pub fn compression_words(n: usize) -> u64 {
+    let n = n as u64;
+    n.wrapping_mul(n.wrapping_sub(1)).wrapping_mul(5220)
+}
+
+/// What a query looks at of a state: its share count, its bytes and words so far, its mark and its
+/// hash. Calls without a state have the share count alone.
 #[repr(C)]
-#[derive(Clone, Copy, Debug)]
+#[derive(Clone, Copy, Debug, PartialEq)]
 pub struct Outline {
     pub n: usize,
     pub fed: u64,
+    pub drawn: u64,
     pub finished: u32,
+    pub hash: u32,
+}
+
+impl Outline {
+    /// Of a state with so many shares and bytes, and with the words that start and feeds draw for
+    /// them: it is fit where these are allowed.
+    pub fn of(n: usize, fed: u64) -> Outline {
+        Outline {
+            n,
+            fed,
+            drawn: compression_words(n).wrapping_mul(2 + fed / 64),
+            finished: 0,
+            hash: 0,
+        }
+    }
 }
 
 /// With so many shares, before the first byte.
 impl From<usize> for Outline {
     fn from(n: usize) -> Outline {
-        Outline {
-            n,
-            fed: 0,
-            finished: 0,
-        }
+        Outline::of(n, 0)
     }
 }
 
 /// All that a call can be lent, and its numbers. Each call takes what it needs.
 #[derive(Clone, Debug, PartialEq)]
 pub struct Arguments {
-    /// The share count; of a call on a state, the state's.
-    pub n: usize,
-    /// Bytes so far and the mark of a state.
-    pub fed: u64,
-    pub finished: u32,
+    /// The share count; of a call on a state, all its numbers.
+    pub state: Outline,
     /// The value to split; x or a, r and g of the two-share forms.
     pub values: [u32; 3],
     pub inputs: [Lent<u32>; 2],
@@ -129,7 +144,7 @@ pub struct Lengths {
 }
 
 impl Arguments {
-    /// Random contents in slices of these lengths. What a state has beside its inner chain is 0.
+    /// Random contents in slices of these lengths. The outer chain and the tail of a state are 0.
     pub fn random(n: usize, lengths: Lengths, random: &mut Random) -> Arguments {
         let mut words = |length| Lent::inside(random.words(length + 2 * GUARD));
         let inputs = lengths.inputs.map(&mut words);
@@ -140,9 +155,7 @@ impl Arguments {
         let (message, tag) = (bytes(lengths.bytes), bytes(lengths.tag));
         let values = std::array::from_fn(|_| random.word());
         Arguments {
-            n,
-            fed: 0,
-            finished: 0,
+            state: n.into(),
             values,
             inputs,
             bytes: message,
@@ -157,7 +170,7 @@ impl Arguments {
 
     /// Makes a state up: of this outline, with anything in all its places and around them.
     pub fn make_up(&mut self, state: Outline, random: &mut Random) {
-        (self.n, self.fed, self.finished) = (state.n, state.fed, state.finished);
+        self.state = state;
         self.outer.memory.fill_with(|| random.word());
         self.tail.memory.fill_with(|| random.word() as u8);
     }
@@ -177,21 +190,15 @@ impl Arguments {
         self.chain.slice().try_into().expect("a chain's length")
     }
 
-    /// The outline of the state.
-    pub fn outline(&self) -> Outline {
-        Outline {
-            n: self.n,
-            fed: self.fed,
-            finished: self.finished,
-        }
-    }
-
     /// The numbers and slices that differ, each slice with the first place where it does.
     pub fn differences(&self, other: &Arguments) -> Vec<(&'static str, isize)> {
+        let (a, b) = (&self.state, &other.state);
         let numbers = [
-            ("n", self.n as u64, other.n as u64),
-            ("fed", self.fed, other.fed),
-            ("finished", self.finished.into(), other.finished.into()),
+            ("n", a.n as u64, b.n as u64),
+            ("fed", a.fed, b.fed),
+            ("drawn", a.drawn, b.drawn),
+            ("finished", a.finished.into(), b.finished.into()),
+            ("hash", a.hash.into(), b.hash.into()),
         ];
         let words = [
             ("input 1", &self.inputs[0], &other.inputs[0]),

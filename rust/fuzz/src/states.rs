@@ -15,7 +15,9 @@ macro_rules! state_of {
                 $side::State {
                     n: state.n,
                     bytes: state.fed,
+                    drawn: state.drawn,
                     finished: state.finished,
+                    hash: state.hash,
                     inner: $side::Chain { shares },
                     outer: $side::Chain { shares },
                     tail: [0xa5; 64],
@@ -25,7 +27,7 @@ macro_rules! state_of {
 
         impl From<&Arguments> for $side::State {
             fn from(a: &Arguments) -> $side::State {
-                let mut state = $side::State::from(a.outline());
+                let mut state = $side::State::from(a.state);
                 state.inner.shares.copy_from_slice(a.chain.slice());
                 state.outer.shares.copy_from_slice(a.outer.slice());
                 state.tail.copy_from_slice(a.tail.slice());
@@ -35,7 +37,13 @@ macro_rules! state_of {
 
         impl HandedBack for $side::State {
             fn put_into(&self, a: &mut Arguments) {
-                (a.n, a.fed, a.finished) = (self.n, self.bytes, self.finished);
+                a.state = Outline {
+                    n: self.n,
+                    fed: self.bytes,
+                    drawn: self.drawn,
+                    finished: self.finished,
+                    hash: self.hash,
+                };
                 a.chain.slice_mut().copy_from_slice(&self.inner.shares);
                 a.outer.slice_mut().copy_from_slice(&self.outer.shares);
                 a.tail.slice_mut().copy_from_slice(&self.tail);

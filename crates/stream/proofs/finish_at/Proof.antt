@@ -17,7 +17,7 @@ finish-at-spec =
     (λ c. search needs)
     (λ c. search needs)
     (λ c. search needs)
-    (λ c κs. (search needs, search needs, omega arith, search last-fits, search needs, search last-room))
+    (λ c κs. (search needs, search needs, omega arith, search (last-fits, needs), search needs, search last-room))
     (λ c κs. (search needs, search needs, search needs, search digest-room))
     (λ c κs. search needs)
     (λ c. search needs)

@@ -240,6 +240,8 @@ impl Streaming {
     fn new(n: usize) -> Streaming {
         let mut state: Box<State> = Box::default();
         (state.n, state.bytes) = (n, 63);
+        let started = crate::hmac_sha1_start_words(n).expect("a right count");
+        state.drawn = started.words() as u64;
         state.inner.shares[..5 * n].copy_from_slice(&fresh(5 * n, CHAIN));
         state.outer.shares[..5 * n].copy_from_slice(&fresh(5 * n, OUTER));
         let words = crate::hmac_sha1_finish_words(&state).expect("a fit state");
@@ -300,7 +302,9 @@ fn a_dropped_state_is_cleared() {
     let mut place = MaybeUninit::new(State {
         n: 2,
         bytes: 63,
+        drawn: 20_880,
         finished: 0,
+        hash: 0,
         inner: Chain {
             shares: [7; CHAIN_WORDS],
         },

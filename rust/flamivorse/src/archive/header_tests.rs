@@ -146,7 +146,7 @@ fn layouts() -> String {
         layout!("flamivorse_opened", Opened: number, word),
         layout!("flamivorse_chain", Chain: shares),
         layout!("flamivorse_compressed", Compressed: number, drawn, chain),
-        layout!("flamivorse_state", State: n, bytes, finished, inner, outer, tail),
+        layout!("flamivorse_state", State: n, bytes, drawn, finished, hash, inner, outer, tail),
         layout!("flamivorse_streamed", Streamed: number, drawn, state),
     ]
     .concat()

@@ -131,25 +131,34 @@ fn chain_of(word: u32) -> Chain {
     }
 }
 
-/// A state with something in every place, those that are not used among them.
-fn full(n: usize, bytes: u64, finished: u32) -> State {
+/// How many words a compression draws at n shares, modulo 2^64.
+fn compression_words(n: usize) -> u64 {
+    let n = n as u64;
+    n.wrapping_mul(n.wrapping_sub(1)).wrapping_mul(5220)
+}
+
+/// A state with something in every place, those that are not used among them. Its count of words is
+/// that of its shares and bytes, so that it is fit where these are.
+fn full(n: usize, bytes: u64) -> State {
     State {
         n,
         bytes,
-        finished,
+        drawn: compression_words(n).wrapping_mul(2 + bytes / 64),
+        finished: 0,
+        hash: 0,
         inner: chain_of(7),
         outer: chain_of(8),
         tail: [9; 64],
     }
 }
 
-/// All fields of a state.
-type Fields = (usize, u64, u32, [[u32; CHAIN_WORDS]; 2], [u8; 64]);
+/// All fields of a state: share count; bytes and words; mark and hash; chains; tail.
+type Fields = (usize, [u64; 2], [u32; 2], [[u32; CHAIN_WORDS]; 2], [u8; 64]);
 
 fn fields(state: &State) -> Fields {
     let chains = [state.inner.shares, state.outer.shares];
-    let (n, bytes, finished) = (state.n, state.bytes, state.finished);
-    (n, bytes, finished, chains, state.tail)
+    let (counts, codes) = ([state.bytes, state.drawn], [state.finished, state.hash]);
+    (state.n, counts, codes, chains, state.tail)
 }
 
 /// A refusal by this number that drew nothing and hands this state back.
@@ -170,29 +179,55 @@ fn starts() {
     }
 }
 
-/// States that are unfit, by their share count, byte count and mark.
-const UNFIT: [(usize, u64, u32); 8] = [
-    (0, 0, 0),
-    (OVER_SHARES, 0, 0),
-    (usize::MAX, 0, 0),
-    (2, OVER_BYTES as u64, 0),
-    (2, u64::MAX, 0),
-    (2, 0, 1),
-    (2, 0, u32::MAX),
-    (OVER_SHARES, OVER_BYTES as u64, 1),
-];
+/// A full state that is fit but for this change.
+fn changed(n: usize, bytes: u64, change: impl FnOnce(&mut State)) -> State {
+    let mut state = full(n, bytes);
+    change(&mut state);
+    state
+}
+
+/// Counts of words that are wrong at n shares after so many bytes: a word or a compression off, with
+/// those of a finish, of another share count, right but for the upper half, at the end of 64 bits.
+fn wrong_counts(n: usize, bytes: u64) -> impl Iterator<Item = u64> {
+    let (right, compression) = (full(n, bytes).drawn, compression_words(n));
+    let off = [1, compression].map(|words| [right.wrapping_sub(words), right + words]);
+    let finished = [2, 3].map(|compressions| right + compressions * compression);
+    let others = [n - 1, n + 1].map(|n| full(n, bytes).drawn);
+    let wide = [right + (1 << 32), right + (1 << 63), u64::MAX];
+    let all = [off.as_flattened(), &finished, &others, &wide].concat();
+    all.into_iter().filter(move |&drawn| drawn != right)
+}
+
+/// States that are unfit for one reason each: share count, bytes, mark, hash, and, at the ends of
+/// blocks too, count of words. And one for all of these.
+fn unfit() -> Vec<State> {
+    let shares = [0, OVER_SHARES, usize::MAX].map(|n| full(n, 70));
+    let bytes = [OVER_BYTES as u64, u64::MAX].map(|bytes| full(2, bytes));
+    let marks = [1, u32::MAX].map(|mark| changed(2, 70, |state| state.finished = mark));
+    let hashes = [1, 2, 1 << 31, u32::MAX];
+    let hashes = hashes.map(|hash| changed(2, 70, |state| state.hash = hash));
+    let begun = [(1, 70), (2, 0), (2, 63), (2, 64), (2, 128), (3, 70)];
+    let counts = begun.into_iter().flat_map(|(n, bytes)| {
+        wrong_counts(n, bytes).map(move |drawn| changed(n, bytes, |state| state.drawn = drawn))
+    });
+    let all = changed(OVER_SHARES, OVER_BYTES as u64, |state| {
+        (state.drawn, state.finished, state.hash) = (1, 1, 1);
+    });
+    let alone = shares.into_iter().chain(bytes).chain(marks).chain(hashes);
+    alone.chain(counts).chain([all]).collect()
+}
 
 #[test]
 fn feeds() {
-    let unfit = UNFIT.map(|(n, bytes, finished)| (full(n, bytes, finished), OVER_BYTES, 6));
+    let unfit = unfit().into_iter().map(|state| (state, OVER_BYTES, 6));
     let others = [
         (0, OVER_BYTES, 4),
         (1, MESSAGE_LIMIT, 4),
         (MESSAGE_LIMIT, 1, 4),
         (0, 64, 5),
     ];
-    let others = others.map(|(bytes, length, number)| (full(2, bytes as u64, 0), length, number));
-    for (state, length, number) in unfit.into_iter().chain(others) {
+    let others = others.map(|(bytes, length, number)| (full(2, bytes as u64), length, number));
+    for (state, length, number) in unfit.chain(others) {
         let (piece, none) = ([0; OVER_BYTES], [0u32; 0]);
         // SAFETY: both are slices of Rust's, and nothing is written.
         let answer = unsafe {
@@ -204,10 +239,10 @@ fn feeds() {
 
 #[test]
 fn finishes() {
-    let unfit = UNFIT.map(|(n, bytes, finished)| (full(n, bytes, finished), 19, 6));
+    let unfit = unfit().into_iter().map(|state| (state, 19, 6));
     let others = [(19, 3), (21, 3), (0, 3), (20, 5)];
-    let others = others.map(|(size, number)| (full(2, MESSAGE_LIMIT as u64, 0), size, number));
-    for (state, size, number) in unfit.into_iter().chain(others) {
+    let others = others.map(|(size, number)| (full(2, MESSAGE_LIMIT as u64), size, number));
+    for (state, size, number) in unfit.chain(others) {
         let (mut tag, none) = ([5; 21], [0u32; 0]);
         // SAFETY: both are slices of Rust's that do not overlap.
         let answer = unsafe {
@@ -220,8 +255,7 @@ fn finishes() {
 
 #[test]
 fn queries_on_states() {
-    for (n, bytes, finished) in UNFIT {
-        let state = full(n, bytes, finished);
+    for state in unfit() {
         refused(query!(flamivorse_hmac_sha1_finish_words(state.clone())), 6);
         refused(
             query!(flamivorse_hmac_sha1_feed_words(state, OVER_BYTES)),
@@ -235,7 +269,7 @@ fn queries_on_states() {
         (1, usize::MAX),
         (MESSAGE_LIMIT, usize::MAX),
     ] {
-        let state = full(2, bytes as u64, 0);
+        let state = full(2, bytes as u64);
         refused(query!(flamivorse_hmac_sha1_feed_words(state, length)), 4);
     }
 }

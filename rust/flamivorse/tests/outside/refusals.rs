@@ -40,7 +40,7 @@ impl Fault {
 
     fn apply(self, arguments: &mut Arguments) {
         match self.place {
-            Place::ShareCount => arguments.n = self.value,
+            Place::ShareCount => arguments.state.n = self.value,
             Place::Input(which) => arguments.inputs[which].resize(self.value),
             Place::Output => arguments.output.resize(self.value),
             Place::Tag => arguments.tag.resize(self.value),

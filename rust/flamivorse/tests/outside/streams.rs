@@ -1,6 +1,6 @@
 //! Messages that come in pieces: however a message is cut, it has the tag of the one-call form and of
-//! RustCrypto, and the same end state; a refusal leaves a stream as it was; pieces fed with words from
-//! a supply, and written.
+//! RustCrypto, and the same end state; the state counts the words drawn; a refusal leaves a stream as
+//! it was; pieces fed with words from a supply, and written.
 
 use crate::report;
 use crate::tags::{outside_tag, rfc2202, tag};
@@ -13,13 +13,13 @@ use fuzz::random::Random;
 use std::cell::Cell;
 use std::io::{self, Write};
 
-/// All fields of a state.
-type Fields = (usize, u64, u32, [[u32; CHAIN_WORDS]; 2], [u8; 64]);
+/// All fields of a state: share count; bytes and words; mark and hash; chains; tail.
+type Fields = (usize, [u64; 2], [u32; 2], [[u32; CHAIN_WORDS]; 2], [u8; 64]);
 
 fn fields(state: &State) -> Fields {
     let chains = [state.inner.shares, state.outer.shares];
-    let (n, bytes, finished) = (state.n, state.bytes, state.finished);
-    (n, bytes, finished, chains, state.tail)
+    let (counts, codes) = ([state.bytes, state.drawn], [state.finished, state.hash]);
+    (state.n, counts, codes, chains, state.tail)
 }
 
 /// Seeded words for the calls of one message, and how many were drawn.
@@ -162,6 +162,41 @@ fn cuts_of_random_messages() {
         }
     }
     report(cases, "cuts of random messages");
+}
+
+/// The state counts so many words: those of the compressions that its bytes have taken.
+fn counts(stream: &Stream, drawn: usize) {
+    let state = stream.state();
+    let compressions = 2 + state.bytes as usize / 64;
+    let counted = sha1_compress_words(state.n).map(|one| compressions * one.words());
+    assert_eq!((state.drawn, counted), (drawn as u64, Ok(drawn)));
+}
+
+/// Over a run of calls the state counts what the start and the accepted feeds drew. A refused call
+/// adds nothing, and neither does a finish. At one share there is nothing to count.
+#[test]
+fn count_of_words() {
+    let lengths = [0, 1, 62, 1, 0, 64, 63, 65, 129];
+    for n in SOME_COUNTS {
+        let mut words = Words::new(514);
+        let mut stream = words.start(&split(n, b"key"));
+        counts(&stream, words.drawn);
+        for length in lengths {
+            words.feed(&mut stream, &vec![7; length]);
+            counts(&stream, words.drawn);
+            let long = stream.feed(&[0; MESSAGE_LIMIT + 1], &[]);
+            assert_eq!(long, Err(Refusal::TooLong));
+            counts(&stream, words.drawn);
+        }
+        let drawn = words.drawn;
+        words.finish(&mut stream);
+        counts(&stream, drawn);
+        assert_eq!(stream.finish(&[]), Err(Refusal::StateUnfit));
+        counts(&stream, drawn);
+        assert_eq!(drawn == 0, n == 1);
+    }
+    let calls = SOME_COUNTS.len() * (3 + 2 * lengths.len());
+    report(calls, "calls after which the state counts its words");
 }
 
 /// What is not used of a state has no say. An accepted feed makes it 0, of an empty piece too; a

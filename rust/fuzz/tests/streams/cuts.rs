@@ -51,12 +51,12 @@ impl Run {
 
     /// Makes a call with exactly the words that its query tells, now and then with more.
     fn make(&mut self, call: &Call, piece: &[u8]) {
-        let asked = call.compare_query(self.target, self.lent.outline(), piece.len());
+        let asked = call.compare_query(self.target, self.lent.state, piece.len());
         let need = asked.expect("a call that has a query");
         let words = self.words.words(need.count as usize);
         self.lent.bytes.hold(piece);
         self.lent.words.hold(&words);
-        if self.lent.fed % 3 == 1 {
+        if self.lent.state.fed % 3 == 1 {
             self.lent.words.resize(words.len() + 5);
         }
         let (outcome, after) = call.compare(self.target, &self.lent);
@@ -65,12 +65,13 @@ impl Run {
         self.drawn += need.count;
     }
 
-    /// Feeds a message in pieces of these lengths.
+    /// Feeds a message in pieces of these lengths. After each the state counts all words so far.
     fn feed(&mut self, message: &[u8], lengths: &[usize]) {
         let mut rest = message;
         for &length in lengths {
             let (piece, after) = rest.split_at(length);
             self.make(FEED, piece);
+            assert_eq!(self.lent.state.drawn, self.drawn);
             rest = after;
         }
         assert!(rest.is_empty());
@@ -79,9 +80,8 @@ impl Run {
     /// Compares the end of two runs: the state, field by field, and how many words were drawn.
     fn ends_as(&self, other: &Run) -> bool {
         let (a, b) = (&self.lent, &other.lent);
-        let numbers = (a.n, a.fed, a.finished) == (b.n, b.fed, b.finished);
         let chains = (&a.chain, &a.outer) == (&b.chain, &b.outer);
-        numbers && chains && a.tail == b.tail && self.drawn == other.drawn
+        a.state == b.state && chains && a.tail == b.tail && self.drawn == other.drawn
     }
 }
 

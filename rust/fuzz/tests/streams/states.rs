@@ -6,7 +6,7 @@ use flamivorse::MESSAGE_LIMIT;
 use fuzz::calls::{
     refused, Call, Outcome, Target, COUNTS, SOME_COUNTS, STREAM_CALLS, WRONG_COUNTS,
 };
-use fuzz::lent::{Arguments, Outline};
+use fuzz::lent::{compression_words, Arguments, Outline};
 use fuzz::random::Random;
 
 /// The most bytes that a state can have.
@@ -14,7 +14,8 @@ const LIMIT: u64 = MESSAGE_LIMIT as u64;
 
 /// Where the places of a state begin that are not read: in its chains, and in its tail.
 fn unread(state: Outline) -> (usize, usize) {
-    match state.finished == 0 && COUNTS.contains(&state.n) && state.fed <= LIMIT {
+    let right = state == Outline::of(state.n, state.fed);
+    match right && COUNTS.contains(&state.n) && state.fed <= LIMIT {
         true => (5 * state.n, state.fed as usize % 64),
         false => (0, 0),
     }
@@ -22,7 +23,7 @@ fn unread(state: Outline) -> (usize, usize) {
 
 /// Whether these places are 0.
 fn is_cleared(state: &Arguments) -> bool {
-    let (words, bytes) = unread(state.outline());
+    let (words, bytes) = unread(state.state);
     let mut chains = [&state.chain, &state.outer].into_iter();
     chains.all(|chain| chain.slice()[words..].iter().all(|&word| word == 0))
         && state.tail.slice()[bytes..].iter().all(|&byte| byte == 0)
@@ -33,7 +34,7 @@ fn is_cleared(state: &Arguments) -> bool {
 fn is_kept(given: &Arguments, outcome: Outcome, after: &Arguments) -> bool {
     let mut expected = given.clone();
     if outcome.number == 0 {
-        expected.finished = 1;
+        expected.state.finished = 1;
         expected.tag = after.tag.clone();
     }
     *after == expected
@@ -42,7 +43,7 @@ fn is_kept(given: &Arguments, outcome: Outcome, after: &Arguments) -> bool {
 /// Makes a call twice, the second time with other contents in the places that are not read: both
 /// answers are the same, but for the state that a refusal and a finish hand back as it came.
 fn compare_unread(call: &Call, target: Target, given: &Arguments, random: &mut Random) -> Outcome {
-    let (words, bytes) = unread(given.outline());
+    let (words, bytes) = unread(given.state);
     let mut other = given.clone();
     for chain in [&mut other.chain, &mut other.outer] {
         chain.slice_mut()[words..].fill_with(|| random.word());
@@ -97,7 +98,7 @@ fn unread_places_have_no_say() {
     let mut cases = 0;
     for n in SOME_COUNTS {
         for (fed, piece) in FIT {
-            let state = Outline { fed, ..n.into() };
+            let state = Outline::of(n, fed);
             for call in &STREAM_CALLS {
                 cases += compare_supplies(call, state, piece, &mut random);
             }
@@ -106,17 +107,30 @@ fn unread_places_have_no_say() {
     report(cases, "states with anything in the places not read");
 }
 
-/// States of n shares: a fit one, and unfit ones by their share count, their bytes and their mark.
+/// The same state with counts of words that are not its own: a word or a compression off, with those
+/// of a finish, of two shares or three, right but for the upper half, and at the end of 64 bits.
+fn miscounted(fit: Outline) -> impl Iterator<Item = Outline> {
+    let (right, compression) = (fit.drawn, compression_words(fit.n));
+    let off = [1, compression].map(|words| [right.wrapping_sub(words), right + words]);
+    let finished = [2, 3].map(|compressions| right + compressions * compression);
+    let others = [2, 3].map(|n| Outline::of(n, fit.fed).drawn);
+    let wide = [right + (1 << 32), right + (1 << 63), u64::MAX];
+    let all = [off.as_flattened(), &finished, &others, &wide].concat();
+    let states = all.into_iter().map(move |drawn| Outline { drawn, ..fit });
+    states.filter(move |state| *state != fit)
+}
+
+/// States of n shares: a fit one, and unfit ones by their share count, their bytes, their mark, their
+/// hash and their count of words.
 fn states(n: usize) -> Vec<Outline> {
-    let fit = Outline {
-        n,
-        fed: 70,
-        finished: 0,
-    };
-    let counts = WRONG_COUNTS.map(|n| Outline { n, ..fit });
-    let bytes = [LIMIT + 1, 70 + (1 << 32), u64::MAX].map(|fed| Outline { fed, ..fit });
-    let marks = [1, 2, 1 << 31, u32::MAX].map(|finished| Outline { finished, ..fit });
-    let unfit = counts.into_iter().chain(bytes).chain(marks);
+    let fit = Outline::of(n, 70);
+    let counts = WRONG_COUNTS.map(|n| Outline::of(n, 70));
+    let bytes = [LIMIT + 1, 70 + (1 << 32), u64::MAX].map(|fed| Outline::of(n, fed));
+    let codes = [1, 2, 1 << 31, u32::MAX];
+    let marks = codes.map(|finished| Outline { finished, ..fit });
+    let hashes = codes.map(|hash| Outline { hash, ..fit });
+    let others = counts.into_iter().chain(bytes).chain(marks).chain(hashes);
+    let unfit = others.chain(miscounted(fit));
     [fit].into_iter().chain(unfit).collect()
 }
 
@@ -146,8 +160,8 @@ fn compare_faults(
     }
     let short = short && lengths.words > 0;
     lengths.words -= usize::from(short);
+    let mut given = Arguments::random(states[0].n, lengths, random);
     for (place, &state) in states.iter().enumerate() {
-        let mut given = Arguments::random(state.n, lengths, random);
         given.make_up(state, random);
         for target in TARGETS {
             let outcome = compare_unread(call, target, &given, random);
@@ -188,12 +202,28 @@ fn compare_queries(target: Target, state: Outline) -> usize {
     2 + fed.count()
 }
 
+/// A state with its own count of words, and with one that is a word or a compression more; finished;
+/// of another hash.
+fn kinds(state: Outline) -> [Outline; 5] {
+    let more = |words| Outline {
+        drawn: state.drawn.wrapping_add(words),
+        ..state
+    };
+    let (finished, hash) = (1, 1);
+    [
+        state,
+        more(1),
+        more(compression_words(state.n)),
+        Outline { finished, ..state },
+        Outline { hash, ..state },
+    ]
+}
+
 #[test]
 fn queries() {
     let mut asked = 0;
     for n in COUNTS.into_iter().chain(WRONG_COUNTS) {
-        for (fed, finished) in lengths().flat_map(|fed| [(fed, 0), (fed, 1)]) {
-            let state = Outline { n, fed, finished };
+        for state in lengths().flat_map(|fed| kinds(Outline::of(n, fed))) {
             asked += TARGETS
                 .map(|target| compare_queries(target, state))
                 .iter()
