@@ -365,6 +365,7 @@ pub extern "C" fn flamivorse_hmac_sha1_finish(
     );
     let number = finishing(need, tag.len(), words.len());
     if number != DONE {
+        // Written out: beside one call more, `search` no longer gets to the sizes of the state.
         return Streamed {
             number: number,
             drawn: 0,
