@@ -420,7 +420,7 @@ module _ (k : ℕ) (wide : 0 < k) (n : ℕ) (key ws : List ℕ) (accepted : star
 
 -- What a state carries, at every width: over any run of calls from an accepted start, accepted and refused, each on a
 -- state that an earlier one handed back. Its count is the words that start and feeds drew, and those are the rules' for
--- the bytes taken; a refused call adds to neither. So it is fit until it is finished, and 6 is never given for its count.
+-- the bytes taken; a refused call adds to neither. So it is fit until it is finished: 6 is never given for its count.
 module _ (k : ℕ) (wide : 0 < k) {n bytes words : ℕ} {s : State} (run : Reached (sha1 k) n bytes words s) where
   pub reached-counts : (s .n ≡ n) × (s .bytes ≡ bytes) × (s .drawn ≡ words)
       × (words ≡ (2 + bytes / 64) * compressDraws k n)

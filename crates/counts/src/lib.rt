@@ -275,7 +275,8 @@ pub fn feed_words(
 
 // The last blocks of the message, and the digest block.
 pub fn finish_words(n: usize, bytes: usize, drawn: usize, finished: u32, hash: u32) -> Answer
-    ensures { λ r. ⌜ query (test 6 (fit (sha1 32) n bytes drawn finished hash) ∷ []) (finishDraws (sha1 32) n bytes) ≡ r ⌝ }
+    ensures { λ r. ⌜ query (test 6 (fit (sha1 32) n bytes drawn finished hash) ∷ [])
+        (finishDraws (sha1 32) n bytes) ≡ r ⌝ }
 {
     let number = fitness(is_fit(n, bytes, drawn, finished, hash));
     if number != DONE {

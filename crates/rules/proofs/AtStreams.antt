@@ -22,8 +22,8 @@ use Rattle.rules.specs.Hmac.{Masked}
 use Rattle.rules.specs.Counts.{startDraws, compressions, addDraws, sha1}
 use Rattle.rules.specs.Shares.{add}
 use Rattle.rules.specs.Calls.{call, hmacCall}
-use Rattle.rules.specs.Stream.{Feeds, isFit, state, stateOfZeros, start, feed, finish, streamed, startCall, feedCall}
-use Rattle.rules.specs.Stream.{finishCall, closed, ReadAlike, message, after, drawn, Accepted}
+use Rattle.rules.specs.Stream.{Feeds, isFit, state, stateOfZeros, start, feed, finish, streamed, startCall}
+use Rattle.rules.specs.Stream.{feedCall, finishCall, closed, ReadAlike, message, after, drawn, Accepted}
 use Rattle.rules.specs.Outcome.{Allowed, Fit, Whole, Asks, Done, Settles}
 use Rattle.rules.proofs.Rule.{said, counted}
 use Rattle.rules.proofs.Allowed.{within}
@@ -290,7 +290,8 @@ module _ (s : State) (whole : Whole s) (ws : List ℕ) where
         (ap (λ t. (s .bytes % 64 + length piece) / 64 * t) (compress-count (s .n)))
 
     pub feed-outcome : Settles {A = State × ℕ}
-        (Asks (Fit (sha1 32) s) 6 (Asks (s .bytes + length piece ≤ longestMessage) 4 (Asks (feed-words ≤ length ws) 5 Done)))
+        (Asks (Fit (sha1 32) s) 6 (Asks (s .bytes + length piece ≤ longestMessage) 4
+        (Asks (feed-words ≤ length ws) 5 Done)))
         (feeds .number) (feed (sha1 32) s piece ws 0) (s, 0) (feeds .state, feeds .drawn)
     unfolding feedCall
     feed-outcome =

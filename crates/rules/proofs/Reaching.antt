@@ -1,6 +1,6 @@
 -- Any run of calls from an accepted start, accepted and refused: what the state counts, and that it is fit unless
 -- finished. crates/claims has it of SHA-1.
-use Prim.Native.Nat.{ℕ, zero, suc, _+_, _*_, _/_, _≤_, _<_}
+use Prim.Native.Nat.{ℕ, zero, suc, _+_, _*_, _≤_, _<_}
 use mathlib.Core.Path.{_≡_, refl, sym, ap, ap₂, _∙_, subst}
 use mathlib.Core.Bool.{Bool, true, false}
 use mathlib.Core.List.{List, [], _∷_}
@@ -16,9 +16,9 @@ use Rattle.rules.specs.Hmac.{Masked}
 use Rattle.rules.specs.Standard.{SHA1}
 use Rattle.rules.specs.Counts.{feedDraws, stateDraws, sha1}
 use Rattle.rules.specs.Calls.{call}
-use Rattle.rules.specs.Stream.{isFit, state, start, feed, startCall, feedCall, finishCall, closed, Reached}
+use Rattle.rules.specs.Stream.{isFit, state, feed, startCall, feedCall, finishCall, closed, Reached}
 use Rattle.rules.specs.Stream.{starts, feeds, finishes}
-use Rattle.rules.specs.Outcome.{Allowed, Fit, Whole}
+use Rattle.rules.specs.Outcome.{Fit, Whole}
 use Rattle.rules.proofs.Allowed.{within}
 use Rattle.rules.proofs.Goods.{goods-size}
 use Rattle.rules.proofs.Hashes.{Proper}
@@ -49,7 +49,8 @@ unfolding finishCall
 finished-state M s came ws = refl
 
 pub finished-count : (M : Masked) (s : State) (came ws : List ℕ) → finishCall M s came ws .0 .state .drawn ≡ s .drawn
-finished-count M s came ws = ap (λ (t : State). t .drawn) (finished-state M s came ws) ∙ go (finishCall M s came ws .0 .number)
+finished-count M s came ws =
+    ap (λ (t : State). t .drawn) (finished-state M s came ws) ∙ go (finishCall M s came ws .0 .number)
   where
     go : (number : ℕ) → settled number (closed s) s .drawn ≡ s .drawn
     go zero = refl
@@ -180,7 +181,8 @@ module _ (M : Masked) (proper : Proper (M .standard)) (sixty-four : blockBytes (
       subst (λ (r : Streamed). Counted M n 0 (r .drawn) (r .state)) e
       (begun-counts key ws (ap (λ (r : Streamed). r .number) e ∙ ok))
   reached-counts (feeds piece ws {bytes} {words} {s} run e) =
-      subst (λ (r : Streamed). Counted M n (bytes + settled (r .number) (length piece) 0) (words + r .drawn) (r .state)) e
+      subst
+      (λ (r : Streamed). Counted M n (bytes + settled (r .number) (length piece) 0) (words + r .drawn) (r .state)) e
       (fed-counts (reached-counts run) piece ws _ refl)
   reached-counts (finishes came tag ws {bytes} {words} {s} run e) =
       subst (λ (r : Streamed × List ℕ). Counted M n bytes words (r .0 .state)) e

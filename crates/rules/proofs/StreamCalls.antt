@@ -21,8 +21,8 @@ use Rattle.rules.specs.Standard.{SHA1}
 use Rattle.rules.specs.Sha1.{openWords, chainRoom}
 use Rattle.rules.specs.Hmac.{Masked}
 use Rattle.rules.specs.Counts.{startDraws, feedDraws, finishDraws, sha1}
-use Rattle.rules.specs.Stream.{inUse, waiting, fit, isFit, stateOfZeros, start, feed, finish, startWords, feedWords}
-use Rattle.rules.specs.Stream.{finishWords}
+use Rattle.rules.specs.Stream.{inUse, waiting, fit, isFit, stateOfZeros, start, feed, finish, startWords}
+use Rattle.rules.specs.Stream.{feedWords, finishWords}
 use Rattle.rules.specs.Stream.{streamed, startCall, feedCall, fedAnswer, finishCall, closed}
 use Rattle.rules.specs.Calls.{query}
 use Rattle.rules.specs.Outcome.{Whole}
@@ -192,7 +192,8 @@ module _ (s : State) (ws : List ℕ) (q : Answer) where
     fed-number : first (test 6 (isFit (sha1 32) s) ∷ test 4 (leb (s .bytes + length piece) longestMessage)
         ∷ test 5 (leb (q .drawn) (length ws)) ∷ [])
         ≡ number
-    fed-number = feed-tests (s .n) (s .bytes) (s .drawn) (s .finished) (s .hash) (length ws) number q (length piece) e is
+    fed-number =
+        feed-tests (s .n) (s .bytes) (s .drawn) (s .finished) (s .hash) (length ws) number q (length piece) e is
 
     pub feed-refused : length (map (λ (v : ℕ). v) (s .inner .shares)) ≡ chainRoom
         → length (map (λ (v : ℕ). v) (s .outer .shares)) ≡ chainRoom → length (map (λ (v : ℕ). v) (s .tail)) ≡ 64
@@ -241,7 +242,8 @@ module _ (s : State) (ws : List ℕ) (q : Answer) where
     finish-done h tag drawn f place end marked g =
         ap (λ (o : Answer × List ℕ). (streamed (o .0) (settled (o .0 .number) (closed s) s), o .1))
         (done _ (finish (sha1 32) s) came ws number (q .drawn) _ finished-number
-        (λ z. ap (λ (o : List ℕ × ℕ). o .1) f ∙ place ∙ zero-add _ ∙ tells _ _ q e (fit-taken (holds _ _ (passed _ z .0))))
+        (λ z.
+        ap (λ (o : List ℕ × ℕ). o .1) f ∙ place ∙ zero-add _ ∙ tells _ _ q e (fit-taken (holds _ _ (passed _ z .0))))
         h tag drawn f refl)
         ∙ rw (g, marked)
 

@@ -142,7 +142,8 @@ module _ {M : Masked} {n : ℕ} {Fits : ℕ → Type 0} {Good : List ℕ → ℕ
       counted
       (bind (key-rule keeps proper some 0x36 (omega arith) key-good) (λ i gi.
       bind (key-rule keeps proper some 0x5c (omega arith) key-good) (λ o go.
-      give Started (state M n 0 i o []) (record { inner = i; outer = o; is = refl; inner-good = gi; outer-good = go }))))
+      give Started (state M n 0 i o [])
+      (record { inner = i; outer = o; is = refl; inner-good = gi; outer-good = go }))))
       (omega arith)
 
 -- ---- feed and finish by what they read of a state: the bytes so far, the chains in use and the bytes that wait

@@ -97,8 +97,8 @@ finishDraws M n bytes =
     let block = blockBytes (M .standard) in
     ((bytes % block + M .standard .lengthBytes) / block + 2) * M .draws n
 
--- request (xii): the count that a state carries, once so many bytes were fed: the words of its start, and of one feed of
--- all of them
+-- request (xii): the count that a state carries once so many bytes were fed: the words of its start, and of one feed of
+-- them all
 unfoldable pub stateDraws : Masked → Count → ℕ → ℕ
 stateDraws M n bytes = startDraws M n + feedDraws M n 0 bytes
 

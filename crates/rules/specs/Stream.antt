@@ -190,7 +190,7 @@ unfoldable pub Accepted : Masked → State → Feeds → Type 0
 Accepted M s [] = Unit {0}
 Accepted M s (f ∷ fs) = let o = feedCall M s (f .0) (f .1) in (o .number ≡ 0) × Accepted M (o .state) fs
 
--- any run of calls from an accepted start, each on a state that one before it handed back, accepted or refused: how many
+-- any run of calls from an accepted start, accepted or refused, each on a state that one before it handed back: how many
 -- bytes were taken until then, how many words start and feeds drew, and the state
 pub data Reached (M : Masked) (n : Count) : ℕ → ℕ → State → Type 0 where
   starts : (key : Sharing) (ws : Supply) {r : Streamed} → startCall M n key ws ≡ r → r .number ≡ 0

@@ -11,7 +11,8 @@ use Rattle.counts.proofs.feed_words.Tie as tie
 
 returns : tie.Need-returns
 returns c =
-    state-refused (c .before .before .before .is-fit .ensures) _ _ (c .before .before .growth .ensures) (c .before .if1 .taken)
+    state-refused (c .before .before .before .is-fit .ensures) _ _ (c .before .before .growth .ensures)
+    (c .before .if1 .taken)
     ∙ sym (c .answer .ensures)
 
 add-filled : tie.Need-add-filled

@@ -10,7 +10,8 @@ use Rattle.counts.proofs.finish_words.Tie as tie
 
 returns : tie.Need-returns
 returns c =
-    state-refused (c .before .before .before .is-fit .ensures) _ _ (c .before .before .fitness .ensures) (c .before .if1 .taken)
+    state-refused (c .before .before .before .is-fit .ensures) _ _ (c .before .before .fitness .ensures)
+    (c .before .if1 .taken)
     ∙ sym (c .answer .ensures)
 
 compressions-words-requires : tie.Need-compressions-words-requires
