@@ -1,5 +1,5 @@
-// The queries: the number, and how many words a call draws, 0 where it is refused.
-// No public function here has a precondition.
+// The queries: the number, and how many words a call draws, 0 where it is refused. And what a state counts.
+// No query has a precondition.
 ghost use mathlib.Core.Path.{_≡_};
 ghost use mathlib.Core.Bool.{true};
 ghost use mathlib.Core.List.{[], _∷_};
