@@ -32,7 +32,7 @@ use Rattle.rules.proofs.Conversion.{words-drop, add-adds}
 use Rattle.rules.proofs.Goods.{Goods, goods-size, goods-open, length-open}
 use Rattle.rules.proofs.Hashes.{Chains, Proper, ending-words, key-bytes, hmacOf-is}
 use Rattle.rules.proofs.MaskedHmac.{Keeps}
-use Rattle.rules.proofs.Sizes.{Sized, words-size, add-sizes, sha1-sizes, sha1-size, compress-count}
+use Rattle.rules.proofs.Sizes.{Sized, words-size, add-sizes, sha1-sizes, sha1-size, compress-count, chain-fits}
 use Rattle.rules.proofs.Tags.{sha1-proper, sha1-chains, hmacTag-is}
 use Rattle.rules.proofs.Outcomes.{says-count, says-eq, says-le, says-fit}
 use Rattle.rules.proofs.Outcomes.{settles, settled-three, call-settles, call-draws, call-past}
@@ -63,13 +63,13 @@ module _ (M : Masked) (n : ℕ) (key ws : List ℕ) (ok : startCall M n key ws .
 module _ (M : Masked) (proper : Proper (M .standard)) (sixty-four : blockBytes (M .standard) ≡ 64)
     (sizes : (n : ℕ) → 0 < n → Keeps M n (λ v. Unit {0}) (Sized n))
     (n : ℕ) (key ws : List ℕ) (ok : startCall M n key ws .number ≡ 0) where
-  some : 0 < n
+  pub some : 0 < n
   some = within n (start-asked M n key ws ok .0) .0
 
   abbrev s : State
   s = startCall M n key ws .state
 
-  begun : Clean M n some (sizes n some) sixty-four s
+  unfoldable pub begun : Clean M n some (sizes n some) sixty-four s
   begun =
       let keeps = sizes n some in
       let g = start-rule keeps proper some
@@ -91,7 +91,7 @@ module _ (M : Masked) (proper : Proper (M .standard)) (sixty-four : blockBytes (
   unfolding start state
   begin-bytes = ap (λ (t : State). t .bytes) (start-state M n key ws ok)
 
-  start-place : start M n key ws 0 .1 ≡ startDraws M n
+  pub start-place : start M n key ws 0 .1 ≡ startDraws M n
   start-place =
       let keeps = sizes n some in
       start-rule keeps proper some (words-size M n some keeps 16 key (start-asked M n key ws ok .1)) .place ws 0
@@ -273,7 +273,7 @@ module _ (s : State) (whole : Whole s) (ws : List ℕ) where
   fit-some fit = fit .allowed-shares .0
 
   fit-few : Fit (sha1 32) s → 5 * s .n ≤ chainRoom
-  fit-few fit = omega (arith, fit .allowed-shares .1)
+  fit-few fit = chain-fits 32 (s .n) (fit .allowed-shares .1)
 
   -- ---- feed
   module _ (piece : List ℕ) where

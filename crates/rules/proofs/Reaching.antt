@@ -13,24 +13,22 @@ use Rattle.rules.specs.Numbers.{largest, longestMessage, allowed, test, 
 use Rattle.rules.specs.Hash.{blockBytes, chainWords}
 use Rattle.rules.specs.Sha1.{chainRoom}
 use Rattle.rules.specs.Hmac.{Masked}
-use Rattle.rules.specs.Standard.{SHA1}
 use Rattle.rules.specs.Counts.{feedDraws, stateDraws, sha1}
 use Rattle.rules.specs.Calls.{call}
 use Rattle.rules.specs.Stream.{isFit, state, feed, startCall, feedCall, finishCall, closed, Reached}
 use Rattle.rules.specs.Stream.{starts, feeds, finishes}
 use Rattle.rules.specs.Outcome.{Fit, Whole}
 use Rattle.rules.proofs.Allowed.{within}
-use Rattle.rules.proofs.Goods.{goods-size}
 use Rattle.rules.proofs.Hashes.{Proper}
 use Rattle.rules.proofs.MaskedHmac.{Keeps}
-use Rattle.rules.proofs.Sizes.{Sized, words-size}
+use Rattle.rules.proofs.Sizes.{Sized, chain-fits}
 use Rattle.rules.proofs.Tags.{sha1-proper}
 use Rattle.rules.proofs.Outcomes.{says-fit, passed as says-passed}
 use Rattle.rules.proofs.Calls.{settled-refused}
-use Rattle.rules.proofs.Streaming.{start-rule, state-count, state-next, made-whole}
+use Rattle.rules.proofs.Streaming.{state-count, state-next, made-whole}
 use Rattle.rules.proofs.Runs.{fed-state, fed-drawn, fed-short}
 use Rattle.rules.proofs.StreamCalls.{feed-sized}
-use Rattle.rules.proofs.AtStreams.{start-state, start-drawn, start-asked, sizes-of}
+use Rattle.rules.proofs.AtStreams.{start-drawn, start-asked, start-place, begun, sizes-of}
 
 -- ---- a refused feed
 module _ (M : Masked) (s : State) (piece ws : List ℕ) (no : feedCall M s piece ws .number ≡ 0 → ⊥) where
@@ -93,29 +91,23 @@ module _ (M : Masked) (proper : Proper (M .standard)) (sixty-four : blockBytes (
     (room : (n : ℕ) → n ≤ largest → chainWords (M .standard) * n ≤ chainRoom) (n : ℕ) where
   begun-counts : (key ws : List ℕ) → startCall M n key ws .number ≡ 0
       → (let r = startCall M n key ws in Counted M n 0 (r .drawn) (r .state))
-  unfolding state
+  unfolding state begun
   begun-counts key ws ok =
-      let asked = start-asked M n key ws ok in
-      let count = within n (asked .0) in
-      let keeps = sizes n (count .0) in
-      let rule = start-rule keeps proper (count .0) (words-size M n (count .0) keeps 16 key (asked .1)) in
-      let g = rule .makes ws 0 in
+      let allow = start-asked M n key ws ok .0 in
+      let clean = begun M proper sixty-four sizes n key ws ok in
       let words : startCall M n key ws .drawn ≡ stateDraws M n 0 =
-      start-drawn M n key ws ok ∙ rule .place ws 0 ∙ zero-add _ ∙ sym (state-count M n 0 sixty-four) in
-      subst (Counted M n 0 (startCall M n key ws .drawn)) (sym (start-state M n key ws ok ∙ g .is))
+      start-drawn M n key ws ok ∙ start-place M proper sixty-four sizes n key ws ok
+      ∙ sym (state-count M n 0 sixty-four) in
+      subst (Counted M n 0 (startCall M n key ws .drawn)) (sym (clean .is))
       (record {
         shares = refl;
         taken-bytes = refl;
         drawn-words = sym words;
         of-hash = refl;
-        allowed-shares = asked .0;
+        allowed-shares = allow;
         not-past = omega arith;
         by-rule = words;
-        whole = made-whole M n 0 (g .inner) (g .outer) [] (record {
-          inner-size = goods-size (keeps .size) (g .inner-good);
-          outer-size = goods-size (keeps .size) (g .outer-good);
-          waits-size = rw sixty-four refl;
-        }) sixty-four (room n (count .1));
+        whole = made-whole M n 0 (clean .inner) (clean .outer) [] (clean .made) sixty-four (room n (within n allow .1));
       })
 
   module _ {bytes words : ℕ} {s : State} (counted : Counted M n bytes words s) where
@@ -204,11 +196,8 @@ module _ (M : Masked) (proper : Proper (M .standard)) (sixty-four : blockBytes (
 
 -- ==== SHA-1, at any width
 module _ (k : ℕ) (wide : 0 < k) {n bytes words : ℕ} {s : State} (run : Reached (sha1 k) n bytes words s) where
-  room-for : (n : ℕ) → n ≤ largest → chainWords (SHA1 k) * n ≤ chainRoom
-  room-for n few = omega arith
-
   pub sha1-counts : Counted (sha1 k) n bytes words s
-  sha1-counts = reached-counts (sha1 k) (sha1-proper k) refl (sizes-of k wide) room-for n run
+  sha1-counts = reached-counts (sha1 k) (sha1-proper k) refl (sizes-of k wide) (chain-fits k) n run
 
   pub sha1-fit : s .finished ≡ 0 → Fit (sha1 k) s
-  sha1-fit = reached-fit (sha1 k) (sha1-proper k) refl (sizes-of k wide) room-for n run
+  sha1-fit = reached-fit (sha1 k) (sha1-proper k) refl (sizes-of k wide) (chain-fits k) n run

@@ -1,17 +1,19 @@
 -- How many words masked SHA-1 and HMAC draw and how many shares they make, whatever the shares open to.
-use Prim.Native.Nat.{ℕ, zero, suc, _+_, _-_, _*_, _/_, _<_}
+use Prim.Native.Nat.{ℕ, zero, suc, _+_, _-_, _*_, _/_, _≤_, _<_}
 use mathlib.Core.Path.{_≡_, refl, ap, _∙_}
 use mathlib.Core.List.{List}
 use native.Mathlib.Nat.{suc-mul, mul-suc, zero-mul, add-mul, add-zero, mul-assoc}
 use native.Mathlib.Omega.{arith}
 use lib.ListN.{length, length-map, length-replicate}
 use Rattle.rules.specs.Supply.{Rule}
+use Rattle.rules.specs.Numbers.{largest}
 use Rattle.rules.specs.Shares.{add}
 use Rattle.rules.specs.Convert.{Adder}
 use Rattle.rules.specs.Counts.{andDraws, addDraws, quarterAnds, roundsAnds, compressAnds, compressDraws, keyDraws}
 use Rattle.rules.specs.Counts.{hmacDraws, sha1By, sha1}
 use Rattle.rules.specs.Hash.{Hash, chainWords, digestBytes, allBytes}
-use Rattle.rules.specs.Sha1.{openWords, public, rotl, compress}
+use Rattle.rules.specs.Standard.{SHA1}
+use Rattle.rules.specs.Sha1.{openWords, public, rotl, compress, chainRoom}
 use Rattle.rules.specs.Hmac.{Masked, splitKey, hmacShares, hmacTag}
 use Rattle.rules.proofs.Rule.{give, bind, said, counted}
 use Rattle.rules.proofs.Addition.{add-loop-rule, split-rule}
@@ -124,3 +126,7 @@ pub compress-count : (n : ℕ) → compressDraws 32 n ≡ 5220 * (n * (n - 1))
 unfolding compressAnds roundsAnds quarterAnds andDraws
 compress-count zero = refl
 compress-count (suc m) = let e : suc m - 1 ≡ m = omega arith in rw e (omega (arith, andDraws-twice m))
+
+-- a chain has room for its words at every share count
+pub chain-fits : (k n : ℕ) → n ≤ largest → chainWords (SHA1 k) * n ≤ chainRoom
+chain-fits k n few = omega arith

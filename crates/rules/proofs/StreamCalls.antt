@@ -32,7 +32,7 @@ use Rattle.rules.proofs.Bytes.{length-allBytes}
 use Rattle.rules.proofs.Goods.{Goods, goods-size, length-open}
 use Rattle.rules.proofs.Hashes.{Proper}
 use Rattle.rules.proofs.MaskedHmac.{Keeps}
-use Rattle.rules.proofs.Sizes.{Sized, words-size, sha1-size}
+use Rattle.rules.proofs.Sizes.{Sized, words-size, sha1-size, chain-fits}
 use Rattle.rules.proofs.Tags.{sha1-proper}
 use Rattle.rules.proofs.Streaming.{start-rule, feed-reads, finish-reads, fed-rule, finished-rule, rest-size}
 use Rattle.rules.proofs.Streaming.{made-whole}
@@ -163,9 +163,6 @@ module _ (s : State) (ws : List ℕ) (q : Answer) where
           tail-whole = sym (length-map (s .tail) (λ (v : ℕ). v)) ∙ tail;
         }
 
-    few : allowed (s .n) ≡ true → chainWords (SHA1 32) * s .n ≤ chainRoom
-    few count = omega (arith, within (s .n) count .1)
-
     counted : isFit (sha1 32) s ≡ true → allowed (s .n) ≡ true
     counted h = fits (sha1 32) (s .n) (s .bytes) (s .drawn) (s .finished) (s .hash) h .0
 
@@ -176,15 +173,18 @@ module _ (s : State) (ws : List ℕ) (q : Answer) where
         let count = counted (holds _ _ (passed _ h .0)) in
         let some = within (s .n) count .0 in
         needs (feedDraws (sha1 32) (s .n) (s .bytes) (length piece)) q _ ws e h
-        (feed-sized (sha1 32) s some (sha1-size (s .n) some) refl (few count) whole piece)
+        (feed-sized (sha1 32) s some (sha1-size (s .n) some) refl (chain-fits 32 (s .n) (within (s .n) count .1)) whole
+        piece)
 
     finish-needs : (came : List ℕ) → first (test 6 (isFit (sha1 32) s) ∷ test 3 (eqb (length came) 20) ∷ []) ≡ 0
         → finishWords (sha1 32) s ≡ q → finish (sha1 32) s ws 0 .1 ≡ q .drawn
     finish-needs came h e =
         let fit = holds _ _ (passed _ h .0) in
-        let some = within (s .n) (counted fit) .0 in
+        let count = within (s .n) (counted fit) in
+        let some = count .0 in
         needs (finishDraws (sha1 32) (s .n) (s .bytes)) q _ ws e (fit-taken fit)
-        (finish-sized (sha1 32) s some (sha1-size (s .n) some) refl (few (counted fit)) whole (sha1-proper 32))
+        (finish-sized (sha1 32) s some (sha1-size (s .n) some) refl (chain-fits 32 (s .n) (count .1)) whole
+        (sha1-proper 32))
 
   -- ---- a feed: refused, with the state as it was given, or done
   module _ (piece : List ℕ) (number : ℕ) (e : feedWords (sha1 32) s (length piece) ≡ q)
