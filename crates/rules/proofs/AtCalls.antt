@@ -3,32 +3,29 @@
 use Prim.Native.Nat.{ℕ, zero, suc, _+_, _-_, _*_, _/_, _%_, _^_, _≤_, _<_}
 use mathlib.Core.Path.{_≡_, refl, sym, ap, _∙_}
 use mathlib.Core.List.{List, _∷_, _++_}
-use native.Mathlib.Nat.{suc-mul, mul-assoc, pow-suc}
+use native.Mathlib.Nat.{add-zero, suc-mul, mul-assoc, mul-le-mul-left, pow-suc}
 use native.Mathlib.Omega.{arith}
 use lib.Bits.{bitXor, bitAnd, xor-comm}
 use lib.Dec.{lit<, lit≤}
 use lib.ListN.{length, take, drop, replicate, length-drop, take-append-drop}
 use lib.Pow.{pow-pos}
 use lib.Seq.{take-append-le, drop-append-le}
-use borrow.Author.Tests.{eq-eqb, le-leb}
 use Rattle.words.proofs.Words.{xor-back}
-use Rattle.rules.specs.declared.Chain.{Chain}
-use Rattle.rules.specs.declared.Compressed.{Compressed}
-use Rattle.rules.specs.Supply.{Draw, Rule, Shares, Words, opened, total}
-use Rattle.rules.specs.Numbers.{test, first}
+use Rattle.rules.specs.Supply.{Rule, Shares, Words, opened, total}
+use Rattle.rules.specs.declared.Answer.{Answer}
+use Rattle.rules.specs.Numbers.{largest}
 use Rattle.rules.specs.Shares.{refresh, expand, and, add}
 use Rattle.rules.specs.Convert.{toBool, toArith}
 use Rattle.rules.specs.Short.{toArithShort}
-use Rattle.rules.specs.Hash.{wordsOf, keyBlock, hmac}
-use Rattle.rules.specs.Standard.{SHA1, compress as compressOf}
-use Rattle.rules.specs.Sha1.{openWords, compress, chainRoom, used, chainOf}
-use Rattle.rules.specs.Hmac.{splitKey, hmacTag}
+use Rattle.rules.specs.Hash.{Hash, chainWords, digestBytes, wordsOf, keyBlock, hmac}
+use Rattle.rules.specs.Sha1.{openWords}
+use Rattle.rules.specs.Hmac.{Masked, chainRoom, used, chainOf, splitKey, hmacTag}
 use Rattle.rules.specs.Counts.{andDraws, addDraws, refreshDraws, toBoolDraws, toArithDraws, shortDraws}
-use Rattle.rules.specs.Counts.{keyDraws, sha1}
-use Rattle.rules.specs.Calls.{call, compressCall, a2bCall, b2aCall, hmacCall}
-use Rattle.rules.specs.Outcome.{Power, Allowed, None, Given, Settles, Makes}
+use Rattle.rules.specs.Counts.{keyDraws, standardOf, hashOf}
+use Rattle.rules.specs.Calls.{call, compressed, compressCall, a2bCall, b2aCall, hmacCall}
+use Rattle.rules.specs.Outcome.{Power, Allowed, Asks, Done, Settles, Makes}
 use Rattle.rules.proofs.Loops.{length-used}
-use Rattle.rules.proofs.Rule.{said, counted}
+use Rattle.rules.proofs.Rule.{give, bind, said, counted}
 use Rattle.rules.proofs.Openings.{opened-lt}
 use Rattle.rules.proofs.Pairs.{refresh-rule, and-rule}
 use Rattle.rules.proofs.Addition.{expand-rule}
@@ -39,13 +36,13 @@ use Rattle.rules.proofs.Short.{toArithShort-rule, short-closed}
 use Rattle.rules.proofs.Allowed.{power-within}
 use Rattle.rules.proofs.MaskedHmac.{Keeps}
 use Rattle.rules.proofs.Keys.{short-draws, long-draws}
-use Rattle.rules.proofs.Sizes.{add-sizes, compress-sized, hmacTag-sized, splitKey-sized, sha1-size}
-use Rattle.rules.proofs.Sizes.{andDraws-twice, and-count, compress-count}
-use Rattle.rules.proofs.Opens.{Masks, sha1-opens, compress-opens}
-use Rattle.rules.proofs.Tags.{sha1-proper, sha1-chains, splitKey-opens, hmacTag-is}
-use Rattle.rules.proofs.Outcomes.{says-power, says-count, says-eq, untested, passed, given, settles}
-use Rattle.rules.proofs.Outcomes.{settled-pair, asked}
-use Rattle.rules.proofs.Outcomes.{place, says-supply, alike, as-long}
+use Rattle.rules.proofs.Sizes.{Sized, add-sizes, compress-sized, hmacTag-sized, splitKey-sized, hash-size}
+use Rattle.rules.proofs.Sizes.{andDraws-twice, and-count, eachDraws, compress-count}
+use Rattle.rules.proofs.Opens.{masks, hash-opens}
+use Rattle.rules.proofs.Tags.{hash-proper, hash-chains, splitKey-opens, hmacTag-is}
+use Rattle.rules.proofs.Goods.{goods-open, goods-size}
+use Rattle.rules.proofs.Outcomes.{says-power, says-count, says-eq, passed}
+use Rattle.rules.proofs.Outcomes.{call-settles, call-asked, call-draws, call-past}
 
 -- ---- counts in closed form
 pub add-count : (n : ℕ) → addDraws 32 n ≡ 16 * (n * (n - 1))
@@ -72,13 +69,14 @@ pub toBool-count : (p : ℕ) → (let n = 2 ^ p in toBoolDraws (addDraws 32) n �
 toBool-count p = omega (arith, toBool-sum p, add-count (2 ^ p))
 
 -- a key of l bytes, split and, where it is over 64, hashed
-module _ (n l : ℕ) where
-  pub short-count : l ≤ 64 → keyDraws (sha1 32) n l ≡ 16 * (n - 1)
-  short-count = short-draws (sha1 32) n l
+module _ (code n l : ℕ) where
+  pub short-count : l ≤ 64 → keyDraws (hashOf 32 code) n l ≡ 16 * (n - 1)
+  short-count = short-draws (hashOf 32 code) n l
 
-  pub long-count : 64 < l → keyDraws (sha1 32) n l ≡ (l + 3) / 4 * (n - 1) + ((l + 8) / 64 + 1) * (5220 * (n * (n - 1)))
+  pub long-count : 64 < l
+      → keyDraws (hashOf 32 code) n l ≡ (l + 3) / 4 * (n - 1) + ((l + 8) / 64 + 1) * eachDraws code n
   long-count h =
-      long-draws (sha1 32) n l h ∙ ap (λ d. (l + 3) / 4 * (n - 1) + ((l + 8) / 64 + 1) * d) (compress-count n)
+      long-draws (hashOf 32 code) n l h ∙ ap (λ d. (l + 3) / 4 * (n - 1) + ((l + 8) / 64 + 1) * d) (compress-count code n)
 
 -- ---- the rules that draw a word for each share or pair
 pub refresh-law : (n : ℕ) (x : List ℕ) → length x ≡ n → Rule (n * (n - 1) / 2) (Shares n (opened x)) (refresh x)
@@ -160,35 +158,42 @@ module _ (n : ℕ) (count : Allowed n) where
               ws vs 0 0 sized words w′);
         }
 
-  -- ---- SHA-1 in shares, and a tag
-  sha1-keeps : Keeps (sha1 32) n (λ v. v < 2 ^ 32) (Masks 32 n)
-  sha1-keeps = sha1-opens 32 n some (lit≤ tt) (addDraws 32) (add 32) adds 32 refl
+-- ---- a hash in shares, and a tag
+module _ (code n : ℕ) (count : Allowed n) where
+  abbrev M : Masked
+  M = hashOf 32 code
 
-  pub splitKey-law : (key : List ℕ)
-      → Rule (keyDraws (sha1 32) n (length key)) (λ z. length z ≡ 16 * n) (splitKey (sha1 32) n key)
-  splitKey-law = splitKey-sized (sha1 32) n some (sha1-size n some) (sha1-proper 32)
+  abbrev H : Hash
+  H = standardOf 32 code
+
+  sized-so : Keeps M n (λ v. Unit {0}) (Sized n)
+  sized-so = hash-size 32 (lit< tt) code n (count .0)
+
+  pub splitKey-law : (key : List ℕ) → Rule (keyDraws M n (length key)) (λ z. length z ≡ 16 * n) (splitKey M n key)
+  splitKey-law = splitKey-sized M n (count .0) sized-so (hash-proper 32 code)
 
   pub hmacTag-law : (key text : List ℕ) → length key ≡ 16 * n
-      → Rule (((length text + 8) / 64 + 4) * (5220 * (n * (n - 1)))) (λ t. length t ≡ 20) (hmacTag (sha1 32) n key text)
+      → Rule (((length text + 8) / 64 + 4) * eachDraws code n) (λ t. length t ≡ digestBytes H) (hmacTag M n key text)
   hmacTag-law key text size =
-      counted (hmacTag-sized (sha1 32) n some (sha1-size n some) (sha1-proper 32) key text size)
-      (ap (λ d. ((length text + 8) / 64 + 4) * d) (compress-count n))
+      counted (hmacTag-sized M n (count .0) sized-so (hash-proper 32 code) key text size)
+      (ap (λ d. ((length text + 8) / 64 + 4) * d) (compress-count code n))
 
   -- its shares open to the key block
   pub split-opens : (key : List ℕ) → Words 8 key → (ws : List ℕ)
-      → openWords n 16 (splitKey (sha1 32) n key ws 0 .0) ≡ wordsOf 4 16 (keyBlock (SHA1 32) key)
-  split-opens key keys ws = splitKey-opens (sha1 32) n some (sha1-proper 32) sha1-chains sha1-keeps key ws 0 keys
+      → openWords n 16 (splitKey M n key ws 0 .0) ≡ wordsOf 4 16 (keyBlock H key)
+  split-opens key keys ws =
+      splitKey-opens M n (count .0) (hash-proper 32 code) (hash-chains code) (hash-opens code n (count .0)) key ws 0 keys
 
   pub tags : (key text : List ℕ) → Words 8 key → Words 8 text → (ws : List ℕ)
-      → Makes 32 (hmacCall 32 n (splitKey (sha1 32) n key ws 0 .0) text) (λ tag. tag ≡ hmac (SHA1 32) key text)
+      → Makes 32 (hmacCall M n (splitKey M n key ws 0 .0) text) (λ tag. tag ≡ hmac H key text)
   unfolding call
   tags key text keys texts ws =
-      let shares = splitKey (sha1 32) n key ws 0 .0 in
+      let shares = splitKey M n key ws 0 .0 in
       record {
         made = λ came vs w h.
             rw h
-            (hmacTag-is (sha1 32) n some (sha1-proper 32) sha1-chains sha1-keeps key text shares vs 0 keys texts
-            (splitKey-law key .makes ws 0) (split-opens key keys ws));
+            (hmacTag-is M n (count .0) (hash-proper 32 code) (hash-chains code) (hash-opens code n (count .0)) key text
+            shares vs 0 keys texts (splitKey-law key .makes ws 0) (split-opens key keys ws));
       }
 
 -- ---- several words, opened
@@ -201,10 +206,12 @@ open-front n (suc m) s t h =
     (ap (λ (u : List ℕ). opened (take n s) ∷ u)
     (open-front n m (drop n s) t (length-drop n s ∙ omega (arith, suc-mul m n))))
 
-open-used : (n : ℕ) (s : List ℕ) → length (used n s) ≡ 5 * n → openWords n 5 (used n s) ≡ openWords n 5 s
+open-used : (H : Hash) (n : ℕ) (s : List ℕ) → length (used H n s) ≡ chainWords H * n
+    → openWords n (chainWords H) (used H n s) ≡ openWords n (chainWords H) s
 unfolding used
-open-used n s h =
-    sym (open-front n 5 (take (5 * n) s) (drop (5 * n) s) h) ∙ ap (openWords n 5) (take-append-drop (5 * n) s)
+open-used H n s h =
+    let m = chainWords H in
+    sym (open-front n m (take (m * n) s) (drop (m * n) s) h) ∙ ap (openWords n m) (take-append-drop (m * n) s)
 
 pub words-opened : (k n m : ℕ) (s : List ℕ) → Words k s → Words k (openWords n m s)
 unfolding openWords
@@ -212,78 +219,74 @@ words-opened k n zero s w i = pow-pos k
 words-opened k n (suc m) s w zero = opened-lt k (take n s) (words-take k n s w)
 words-opened k n (suc m) s w (suc i) = words-opened k n m (drop n s) (words-drop k n s w) i
 
--- ---- one compression: a call whose output is a chain
-module _ (n : ℕ) (chain : Chain) (block : List ℕ) (whole : length (chain .shares) ≡ chainRoom) where
-  abbrev d : ℕ
-  d = 5220 * (n * (n - 1))
+-- ---- one compression: a call whose output is the chain record
+module _ (code n : ℕ) (chain block : List ℕ) (whole : length chain ≡ chainRoom (standardOf 32 code)) where
+  abbrev C : Masked
+  C = hashOf 32 code
 
-  abbrev rule : Draw (List ℕ)
-  rule = compress 32 (add 32) n (used n (chain .shares)) block
+  abbrev m : ℕ
+  m = chainWords (standardOf 32 code)
 
-  compress-law : Allowed n → length block ≡ 16 * n → Rule d (λ z. length z ≡ 5 * n) rule
+  abbrev front : List ℕ
+  front = used (standardOf 32 code) n chain
+
+  front-size : n ≤ largest → length front ≡ m * n
+  front-size few = length-used (standardOf 32 code) n chain (rw whole (mul-le-mul-left m few))
+
+  compress-law : Allowed n → length block ≡ 16 * n
+      → Rule (eachDraws code n) (λ z. Unit {0}) (compressed C n chain block)
   compress-law c e =
-      counted (compress-sized (sha1 32) n (some n c) (sha1-size n (some n c)) (used n (chain .shares)) block
-      (length-used n (chain .shares) (c .1) whole) e) (compress-count n)
+      counted
+      (bind (compress-sized C n (c .0) (hash-size 32 (lit< tt) code n (c .0)) front block (front-size (c .1)) e)
+      (λ z g. give (λ z. Unit {0}) (chainOf (standardOf 32 code) n z) tt))
+      (add-zero _ ∙ compress-count code n)
 
   module _ (ws : List ℕ) where
-    abbrev o : Compressed
-    o = compressCall 32 n chain block ws
+    abbrev o : Answer × List ℕ
+    o = compressCall C n chain block ws
 
-    pub compress-number : Given (Allowed n) (length block ≡ 16 * n) None None (d ≤ length ws) (o .number)
-    unfolding first test
-    compress-number =
-        given (says-count n) (says-eq (length block) (16 * n)) untested untested
-        (λ c i n t. says-supply (compress-law c i) ws)
-
-    -- ---- by that number: the new chain, or the one given
-    pub compress-outcome : (let made = rule ws 0 in
-        Settles {A = Chain × ℕ} (Given (Allowed n) (length block ≡ 16 * n) None None (d ≤ length ws)) (o .number)
-        (record { shares = made .0 ++ replicate (chainRoom - 5 * n) 0 }, made .1) (chain, 0) (o .chain, o .drawn))
-    unfolding chainOf
+    pub compress-outcome : Settles {A = List ℕ × ℕ}
+        (Asks (Allowed n) 1 (Asks (length block ≡ 16 * n) 2 (Asks (eachDraws code n ≤ length ws) 5 Done)))
+        (o .0 .number) (compressed C n chain block ws 0) (chain, 0) (o .1, o .0 .drawn)
     compress-outcome =
-        let made = rule ws 0 in
-        settles (o .number) (record { shares = chainOf n (made .0) }, made .1) (chain, 0) _ compress-number
-        (settled-pair (o .number) (record { shares = chainOf n (made .0) }, made .1) chain 0)
+        call-settles 0 1 (eachDraws code n) (compressed C n chain block) (says-count n) (says-eq (length block) (16 * n))
+        compress-law chain ws
 
-    module _ (accepted : o .number ≡ 0) where
-      asks-for : Allowed n × (length block ≡ 16 * n) × None × None × (d ≤ length ws)
-      asks-for = asked compress-number accepted
+    module _ (accepted : o .0 .number ≡ 0) where
+      asks-for : Allowed n × (length block ≡ 16 * n) × (eachDraws code n ≤ length ws)
+      asks-for =
+          call-asked 0 1 (eachDraws code n) (compressed C n chain block) (says-count n)
+          (says-eq (length block) (16 * n)) compress-law chain ws accepted
 
-      law : Rule d (λ z. length z ≡ 5 * n) rule
-      law = compress-law (asks-for .0) (asks-for .1)
+      pub compress-drawn : o .0 .drawn ≡ eachDraws code n
+      compress-drawn =
+          call-draws 0 1 (eachDraws code n) (compressed C n chain block) (says-count n)
+          (says-eq (length block) (16 * n)) compress-law chain ws accepted
 
-      pub compress-drawn : o .drawn ≡ d
-      compress-drawn = rw accepted (place law ws)
+      -- what stands after the chain's words, and after the words drawn, has no say
+      pub compress-past : (other vs : List ℕ) → take (m * n) chain ≡ take (m * n) other
+          → take (eachDraws code n) ws ≡ take (eachDraws code n) vs → o ≡ compressCall C n other block vs
+      unfolding used
+      compress-past other vs same-front same =
+          call-past 0 1 (eachDraws code n) (compressed C n chain block) (says-count n)
+          (says-eq (length block) (16 * n)) compress-law chain ws accepted (compressed C n other block) other vs
+          (rw same-front) same
 
-      -- what stands after the 5n words of the chain, and after the words drawn, has no say
-      pub compress-past : (other : Chain) (vs : List ℕ) → take (5 * n) (chain .shares) ≡ take (5 * n) (other .shares)
-          → take d ws ≡ take d vs → o ≡ compressCall 32 n other block vs
-      unfolding first test used
-      compress-past other vs front same =
-          let enough = asks-for .4 in
-          rw (
-            ← front,
-            ← alike law ws vs same enough,
-            place law ws,
-            passed (says-count n) (asks-for .0),
-            eq-eqb (length block) (16 * n) (asks-for .1),
-            le-leb d (length ws) enough,
-            le-leb d (length vs) (as-long law ws vs same enough),
-          )
-
-      pub compress-opens-to : Words 32 (chain .shares) → Words 32 block
-          → openWords n 5 (o .chain .shares) ≡ compressOf 32 (openWords n 5 (chain .shares)) (openWords n 16 block)
-      unfolding chainOf used
+      pub compress-opens-to : Words 32 chain → Words 32 block
+          → openWords n m (o .1) ≡ standardOf 32 code .compress (openWords n m chain) (openWords n 16 block)
+      unfolding call chainOf used
       compress-opens-to words blocks =
           let c = asks-for .0 in
-          let made = rule ws 0 .0 in
-          let h = used n (chain .shares) in
-          let size = length-used n (chain .shares) (c .1) whole in
+          let made = C .compress n front block ws 0 .0 in
+          let size = front-size (c .1) in
+          let keeps = hash-opens code n (c .0) in
+          let g = keeps .compresses
+          (masks 32 n m front size (words-opened 32 n m front (words-take 32 (m * n) chain words)))
+          (masks 32 n 16 block (asks-for .1) (words-opened 32 n 16 block blocks)) .makes ws 0 in
           rw accepted
-          (open-front n 5 made (replicate (chainRoom - 5 * n) 0) (law .makes ws 0)
-          ∙ compress-opens 32 n (some n c) (lit≤ tt) (addDraws 32) (add 32) adds h block ws 0 size (asks-for .1)
-          (words-opened 32 n 5 h (words-take 32 (5 * n) (chain .shares) words)) (words-opened 32 n 16 block blocks)
-          ∙ ap (λ t. compressOf 32 t (openWords n 16 block)) (open-used n (chain .shares) size))
+          (open-front n m made (replicate (chainRoom (standardOf 32 code) - m * n) 0) (goods-size (keeps .size) g)
+          ∙ goods-open (λ x X g. (g .0, g .1)) g
+          ∙ ap (λ t. standardOf 32 code .compress t (openWords n 16 block)) (open-used (standardOf 32 code) n chain size))
 
 -- ---- two shares
 pub xor-off : (a b : ℕ) → bitXor (bitXor a b) b ≡ a

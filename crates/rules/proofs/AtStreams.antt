@@ -1,5 +1,5 @@
 -- Runs of the streaming calls from an accepted start: any cutting, the count, and the tag; and what the three calls
--- come to on any state. crates/claims has them of SHA-1.
+-- come to on any state. crates/claims has them of each hash.
 use Prim.Native.Nat.{ℕ, _+_, _-_, _*_, _/_, _%_, _^_, _≤_, _<_}
 use mathlib.Core.Path.{_≡_, refl, sym, ap, _∙_}
 use mathlib.Core.Bool.{true}
@@ -8,35 +8,33 @@ use native.Mathlib.Nat.{zero-add, add-mul}
 use native.Mathlib.Omega.{arith}
 use lib.ListN.{length, take, drop}
 use lib.Pow.{pow-pos}
-use lib.Dec.{eqb, lit<, lit≤}
+use lib.Dec.{eqb, lit<}
 use borrow.Author.Tests.{eqb-true}
 use Rattle.rules.specs.declared.Answer.{Answer}
 use Rattle.rules.specs.declared.State.{State}
 use Rattle.rules.specs.declared.Streamed.{Streamed}
 use Rattle.rules.specs.Supply.{Rule, Words}
 use Rattle.rules.specs.Numbers.{longestMessage, allowed, Test, test}
-use Rattle.rules.specs.Hash.{Hash, blockBytes, wordsOf, allBytes, keyBlock, hmac}
-use Rattle.rules.specs.Standard.{SHA1}
-use Rattle.rules.specs.Sha1.{openWords, chainRoom}
+use Rattle.rules.specs.Hash.{Hash, blockBytes, chainWords, digestBytes, wordsOf, allBytes, keyBlock, hmac}
+use Rattle.rules.specs.Sha1.{openWords}
 use Rattle.rules.specs.Hmac.{Masked}
-use Rattle.rules.specs.Counts.{startDraws, compressions, addDraws, sha1}
-use Rattle.rules.specs.Shares.{add}
+use Rattle.rules.specs.Counts.{startDraws, compressions, standardOf, hashOf}
 use Rattle.rules.specs.Calls.{call, hmacCall}
-use Rattle.rules.specs.Stream.{Feeds, isFit, state, stateOfZeros, start, feed, finish, streamed, startCall}
+use Rattle.rules.specs.Stream.{stateRoom, Feeds, isFit, state, stateOfZeros, start, feed, finish, streamed, startCall}
 use Rattle.rules.specs.Stream.{feedCall, finishCall, closed, ReadAlike, message, after, drawn, Accepted}
 use Rattle.rules.specs.Outcome.{Allowed, Fit, Whole, Asks, Done, Settles}
 use Rattle.rules.proofs.Rule.{said, counted}
 use Rattle.rules.proofs.Allowed.{within}
 use Rattle.rules.proofs.Bytes.{bytes-are-words, all-bytes-are-bytes, length-allBytes, words-back}
-use Rattle.rules.proofs.Conversion.{words-drop, add-adds}
+use Rattle.rules.proofs.Conversion.{words-drop}
 use Rattle.rules.proofs.Goods.{Goods, goods-size, goods-open, length-open}
 use Rattle.rules.proofs.Hashes.{Chains, Proper, ending-words, key-bytes, hmacOf-is}
 use Rattle.rules.proofs.MaskedHmac.{Keeps}
-use Rattle.rules.proofs.Sizes.{Sized, words-size, add-sizes, sha1-sizes, sha1-size, compress-count, chain-fits}
-use Rattle.rules.proofs.Tags.{sha1-proper, sha1-chains, hmacTag-is}
+use Rattle.rules.proofs.Sizes.{Sized, words-size, hash-size, eachDraws, compress-count, chain-fits}
+use Rattle.rules.proofs.Tags.{hash-proper, hash-chains, hmacTag-is}
 use Rattle.rules.proofs.Outcomes.{says-count, says-eq, says-le, says-fit}
 use Rattle.rules.proofs.Outcomes.{settles, settled-three, call-settles, call-draws, call-past}
-use Rattle.rules.proofs.Opens.{Masks, masks, sha1-opens}
+use Rattle.rules.proofs.Opens.{Masks, masks, hash-opens}
 use Rattle.rules.proofs.Streaming.{Readable, start-rule, feed-alike, finish-alike}
 use Rattle.rules.proofs.Runs.{Clean, holds-none, holds-run, tag-rule, any-cutting, run-counts, run-clean}
 use Rattle.rules.proofs.Runs.{finish-counts}
@@ -168,198 +166,204 @@ module _ (M : Masked) (proper : Proper (M .standard)) (chains : Chains (M .stand
       ∙ ap (allBytes (H .wordBytes)) (goods-open (λ x X g. (g .0, g .1)) (tag .good))
       ∙ hmacOf-is H proper chains key keys m
 
--- ==== SHA-1: runs, at any width and, opened, at 32 bits
-pub sizes-of : (k : ℕ) → 0 < k → (n : ℕ) → 0 < n → Keeps (sha1 k) n (λ v. Unit {0}) (Sized n)
-sizes-of k h n some = sha1-sizes k n some k (add k) (add-sizes k h)
+-- ==== the hashes of the calls: runs, at any width and, opened, at 32 bits
+module _ (k : ℕ) (h : 0 < k) (code n : ℕ) (key ws : List ℕ) (ok : startCall (hashOf k code) n key ws .number ≡ 0) where
+  abbrev W : Masked
+  W = hashOf k code
 
-module _ (k : ℕ) (h : 0 < k) (n : ℕ) (key ws : List ℕ) (ok : startCall (sha1 k) n key ws .number ≡ 0) where
   abbrev u : State
-  u = startCall (sha1 k) n key ws .state
+  u = startCall W n key ws .state
 
-  pub sha1-cuts : (fs gs : Feeds) → Accepted (sha1 k) u fs → Accepted (sha1 k) u gs → message fs ≡ message gs
-      → drawn (sha1 k) u fs ≡ drawn (sha1 k) u gs → after (sha1 k) u fs ≡ after (sha1 k) u gs
-  sha1-cuts = cut-anyhow (sha1 k) (sha1-proper k) refl (sizes-of k h) n key ws ok
+  pub hash-cuts : (fs gs : Feeds) → Accepted W u fs → Accepted W u gs → message fs ≡ message gs
+      → drawn W u fs ≡ drawn W u gs → after W u fs ≡ after W u gs
+  hash-cuts = cut-anyhow W (hash-proper k code) refl (hash-size k h code) n key ws ok
 
-  pub sha1-words : (fs : Feeds) → Accepted (sha1 k) u fs → (came vs : List ℕ)
-      → (let o = finishCall (sha1 k) (after (sha1 k) u fs) came vs .0 in o .number ≡ 0
-      → startCall (sha1 k) n key ws .drawn + length (drawn (sha1 k) u fs) + o .drawn
-      ≡ ((length (message fs) + 8) / 64 + 4) * sha1 k .draws n)
-  sha1-words = all-words (sha1 k) (sha1-proper k) refl (sizes-of k h) n key ws ok
+  pub hash-words : (fs : Feeds) → Accepted W u fs → (came vs : List ℕ)
+      → (let o = finishCall W (after W u fs) came vs .0 in o .number ≡ 0
+      → startCall W n key ws .drawn + length (drawn W u fs) + o .drawn
+      ≡ ((length (message fs) + 8) / 64 + 4) * W .draws n)
+  hash-words = all-words W (hash-proper k code) refl (hash-size k h code) n key ws ok
 
-sha1-opening : (n : ℕ) → 0 < n → Keeps (sha1 32) n (λ v. v < 2 ^ 32) (Masks 32 n)
-sha1-opening n some = sha1-opens 32 n some (lit≤ tt) (addDraws 32) (add 32) (add-adds 32 (lit< tt)) 32 refl
+module _ (code : ℕ) where
+  abbrev M : Masked
+  M = hashOf 32 code
 
-pub sha1-tag : (n : ℕ) (shares ws : List ℕ) → startCall (sha1 32) n shares ws .number ≡ 0
-    → (key : List ℕ) → Words 8 key → openWords n 16 shares ≡ wordsOf 4 16 (keyBlock (SHA1 32) key)
-    → (fs : Feeds) → Words 8 (message fs) → (let s = startCall (sha1 32) n shares ws .state in
-    Accepted (sha1 32) s fs → (came vs : List ℕ) → (let o = finishCall (sha1 32) (after (sha1 32) s fs) came vs in
-    o .0 .number ≡ 0 → o .1 ≡ hmac (SHA1 32) key (message fs)))
-sha1-tag = run-tag (sha1 32) (sha1-proper 32) sha1-chains refl sha1-opening
+  abbrev J : Hash
+  J = standardOf 32 code
 
--- any key of 16 words is the key block of its own bytes
-key-opens : (n : ℕ) (shares : List ℕ) → Words 32 shares → (let key = allBytes 4 (openWords n 16 shares) in
-    (length key ≡ 64) × Words 8 key × (openWords n 16 shares ≡ wordsOf 4 16 (keyBlock (SHA1 32) key)))
-unfolding keyBlock
-key-opens n shares words =
-    let w = openWords n 16 shares in
-    let key = allBytes 4 w in
-    let many : length w ≡ 16 = length-open n 16 shares in
-    let size : length key ≡ 64 = length-allBytes 4 w ∙ ap (λ t. t * 4) many in
-    let back = rw many at (words-back 4 w (words-opened 32 n 16 shares words)) in
-    (size, all-bytes-are-bytes 4 w, rw (size, size) (sym (ap (wordsOf 4 16) (append-nil key) ∙ back)))
+  pub hash-tag : (n : ℕ) (shares ws : List ℕ) → startCall M n shares ws .number ≡ 0
+      → (key : List ℕ) → Words 8 key → openWords n 16 shares ≡ wordsOf 4 16 (keyBlock J key)
+      → (fs : Feeds) → Words 8 (message fs) → (let s = startCall M n shares ws .state in
+      Accepted M s fs → (came vs : List ℕ) → (let o = finishCall M (after M s fs) came vs in
+      o .0 .number ≡ 0 → o .1 ≡ hmac J key (message fs)))
+  hash-tag = run-tag M (hash-proper 32 code) (hash-chains code) refl (hash-opens code)
 
--- the one-call form's tag of the same
-module _ (n : ℕ) (key text : List ℕ) (words : Words 32 key) (bytes : Words 8 text) where
-  abbrev K : List ℕ
-  K = allBytes 4 (openWords n 16 key)
+  -- any key of 16 words is the key block of its own bytes
+  key-opens : (n : ℕ) (shares : List ℕ) → Words 32 shares → (let key = allBytes 4 (openWords n 16 shares) in
+      (length key ≡ 64) × Words 8 key × (openWords n 16 shares ≡ wordsOf 4 16 (keyBlock J key)))
+  unfolding keyBlock
+  key-opens n shares words =
+      let w = openWords n 16 shares in
+      let key = allBytes 4 w in
+      let many : length w ≡ 16 = length-open n 16 shares in
+      let size : length key ≡ 64 = length-allBytes 4 w ∙ ap (λ t. t * 4) many in
+      let back = rw many at (words-back 4 w (words-opened 32 n 16 shares words)) in
+      (size, all-bytes-are-bytes 4 w, rw (size, size) (sym (ap (wordsOf 4 16) (append-nil key) ∙ back)))
 
-  pub streamed-tag : (ws : List ℕ) → startCall (sha1 32) n key ws .number ≡ 0 → (fs : Feeds) → message fs ≡ text
-      → (let s = startCall (sha1 32) n key ws .state in
-      Accepted (sha1 32) s fs → (came vs : List ℕ) → (let o = finishCall (sha1 32) (after (sha1 32) s fs) came vs in
-      o .0 .number ≡ 0 → o .1 ≡ hmac (SHA1 32) K text))
-  streamed-tag ws ok fs is taken came vs done =
-      let k = key-opens n key words in
-      sha1-tag n key ws ok K (k .1) (k .2) fs (rw is bytes) taken came vs done ∙ ap (hmac (SHA1 32) K) is
+  -- the one-call form's tag of the same
+  module _ (n : ℕ) (key text : List ℕ) (words : Words 32 key) (bytes : Words 8 text) where
+    abbrev K : List ℕ
+    K = allBytes 4 (openWords n 16 key)
 
-  pub one-call-tag : (came us : List ℕ) → hmacCall 32 n key text came us .0 .number ≡ 0
-      → hmacCall 32 n key text came us .1 ≡ hmac (SHA1 32) K text
-  unfolding call
-  one-call-tag came us ok =
-      let p = passed _ ok in
-      let some = within n (holds _ _ (p .0)) .0 in
-      let size = eqb-true (length key) (16 * n) (holds _ _ (p .1 .0)) in
-      let k = key-opens n key words in
-      rw ok
-      (hmacTag-is (sha1 32) n some (sha1-proper 32) sha1-chains (sha1-opening n some) K text key us 0
-      (k .1) bytes size (k .2))
+    pub streamed-tag : (ws : List ℕ) → startCall M n key ws .number ≡ 0 → (fs : Feeds) → message fs ≡ text
+        → (let s = startCall M n key ws .state in
+        Accepted M s fs → (came vs : List ℕ) → (let o = finishCall M (after M s fs) came vs in
+        o .0 .number ≡ 0 → o .1 ≡ hmac J K text))
+    streamed-tag ws ok fs is taken came vs done =
+        let k = key-opens n key words in
+        hash-tag n key ws ok K (k .1) (k .2) fs (rw is bytes) taken came vs done ∙ ap (hmac J K) is
 
--- ==== SHA-1: what the calls come to, on any state that has its type's sizes
-abbrev d : ℕ → ℕ
-d n = 5220 * (n * (n - 1))
+    pub one-call-tag : (came us : List ℕ) → hmacCall M n key text came us .0 .number ≡ 0
+        → hmacCall M n key text came us .1 ≡ hmac J K text
+    unfolding call
+    one-call-tag came us ok =
+        let p = passed _ ok in
+        let some = within n (holds _ _ (p .0)) .0 in
+        let size = eqb-true (length key) (16 * n) (holds _ _ (p .1 .0)) in
+        let k = key-opens n key words in
+        rw ok
+        (hmacTag-is M n some (hash-proper 32 code) (hash-chains code) (hash-opens code n some) K text key us 0
+        (k .1) bytes size (k .2))
 
-module _ (n : ℕ) (key ws : List ℕ) where
-  abbrev begins : Streamed
-  begins = startCall (sha1 32) n key ws
+  -- ==== what the calls come to, on any state that has its type's sizes
+  abbrev d : ℕ → ℕ
+  d n = eachDraws code n
 
-  start-law : Allowed n → length key ≡ 16 * n → Rule (2 * d n) (λ t. Unit {0}) (start (sha1 32) n key)
-  start-law count size =
-      let some = count .0 in
-      said
-      (start-rule (sha1-size n some) (sha1-proper 32) some (words-size (sha1 32) n some (sha1-size n some) 16 key size))
-      (ap (λ t. 2 * t) (compress-count n)) (λ t g. tt)
+  module _ (n : ℕ) (key ws : List ℕ) where
+    abbrev begins : Streamed
+    begins = startCall M n key ws
 
-  pub start-outcome : Settles {A = State × ℕ}
-      (Asks (Allowed n) 1 (Asks (length key ≡ 16 * n) 2 (Asks (2 * d n ≤ length ws) 5 Done)))
-      (begins .number) (start (sha1 32) n key ws 0) (stateOfZeros, 0) (begins .state, begins .drawn)
-  unfolding startCall
-  start-outcome =
-      call-settles 0 1 (2 * d n) (start (sha1 32) n key) (says-count n) (says-eq (length key) (16 * n)) start-law _ ws
+    start-law : Allowed n → length key ≡ 16 * n → Rule (2 * d n) (λ t. Unit {0}) (start M n key)
+    start-law count size =
+        let keeps = hash-size 32 (lit< tt) code n (count .0) in
+        said
+        (start-rule keeps (hash-proper 32 code) (count .0) (words-size M n (count .0) keeps 16 key size))
+        (ap (λ t. 2 * t) (compress-count code n)) (λ t g. tt)
 
-  pub start-count : begins .number ≡ 0 → begins .drawn ≡ 2 * d n
-  unfolding startCall
-  start-count =
-      call-draws 0 1 (2 * d n) (start (sha1 32) n key) (says-count n) (says-eq (length key) (16 * n)) start-law _ ws
+    pub start-outcome : Settles {A = State × ℕ}
+        (Asks (Allowed n) 1 (Asks (length key ≡ 16 * n) 2 (Asks (2 * d n ≤ length ws) 5 Done)))
+        (begins .number) (start M n key ws 0) (stateOfZeros, 0) (begins .state, begins .drawn)
+    unfolding startCall
+    start-outcome =
+        call-settles 0 1 (2 * d n) (start M n key) (says-count n) (says-eq (length key) (16 * n)) start-law _ ws
 
-  pub start-past : begins .number ≡ 0 → (vs : List ℕ) → take (2 * d n) ws ≡ take (2 * d n) vs
-      → begins ≡ startCall (sha1 32) n key vs
-  unfolding startCall
-  start-past ok vs same =
-      ap (λ (o : Answer × State). streamed (o .0) (o .1))
-      (call-past 0 1 (2 * d n) (start (sha1 32) n key) (says-count n) (says-eq (length key) (16 * n)) start-law _ ws ok
-      (start (sha1 32) n key) _ vs refl same)
+    pub start-count : begins .number ≡ 0 → begins .drawn ≡ 2 * d n
+    unfolding startCall
+    start-count =
+        call-draws 0 1 (2 * d n) (start M n key) (says-count n) (says-eq (length key) (16 * n)) start-law _ ws
 
-module _ (s : State) (whole : Whole s) (ws : List ℕ) where
-  fit-some : Fit (sha1 32) s → 0 < s .n
-  fit-some fit = fit .allowed-shares .0
-
-  fit-few : Fit (sha1 32) s → 5 * s .n ≤ chainRoom
-  fit-few fit = chain-fits 32 (s .n) (fit .allowed-shares .1)
-
-  -- ---- feed
-  module _ (piece : List ℕ) where
-    abbrev feeds : Streamed
-    feeds = feedCall (sha1 32) s piece ws
-
-    abbrev feed-words : ℕ
-    feed-words = (s .bytes % 64 + length piece) / 64 * d (s .n)
-
-    feed-law : Fit (sha1 32) s → s .bytes + length piece ≤ longestMessage
-        → Rule feed-words Whole (feed (sha1 32) s piece)
-    feed-law fit short =
-        counted (feed-sized (sha1 32) s (fit-some fit) (sha1-size (s .n) (fit-some fit)) refl (fit-few fit) whole piece)
-        (ap (λ t. (s .bytes % 64 + length piece) / 64 * t) (compress-count (s .n)))
-
-    pub feed-outcome : Settles {A = State × ℕ}
-        (Asks (Fit (sha1 32) s) 6 (Asks (s .bytes + length piece ≤ longestMessage) 4
-        (Asks (feed-words ≤ length ws) 5 Done)))
-        (feeds .number) (feed (sha1 32) s piece ws 0) (s, 0) (feeds .state, feeds .drawn)
-    unfolding feedCall
-    feed-outcome =
-        call-settles 5 3 feed-words (feed (sha1 32) s piece) (says-fit (sha1 32) s)
-        (says-le (s .bytes + length piece) longestMessage) feed-law s ws
-
-    pub feed-count : feeds .number ≡ 0 → feeds .drawn ≡ feed-words
-    unfolding feedCall
-    feed-count =
-        call-draws 5 3 feed-words (feed (sha1 32) s piece) (says-fit (sha1 32) s)
-        (says-le (s .bytes + length piece) longestMessage) feed-law s ws
-
-    -- what is not read of the state and of the supply has no say
-    pub feed-past : feeds .number ≡ 0 → (t : State) (vs : List ℕ) → ReadAlike (SHA1 32) s t
-        → take feed-words ws ≡ take feed-words vs → feeds ≡ feedCall (sha1 32) t piece vs
-    unfolding feedCall
-    feed-past ok t vs alike same =
+    pub start-past : begins .number ≡ 0 → (vs : List ℕ) → take (2 * d n) ws ≡ take (2 * d n) vs
+        → begins ≡ startCall M n key vs
+    unfolding startCall
+    start-past ok vs same =
         ap (λ (o : Answer × State). streamed (o .0) (o .1))
-        (call-past 5 3 feed-words (feed (sha1 32) s piece) (says-fit (sha1 32) s)
-        (says-le (s .bytes + length piece) longestMessage) feed-law s ws ok
-        (feed (sha1 32) t piece) t vs (feed-alike (sha1 32) s t alike piece vs 0) same
-        ∙ rw (alike .counts, alike .bytes-fed, alike .words-drawn, alike .marks, alike .hashes))
+        (call-past 0 1 (2 * d n) (start M n key) (says-count n) (says-eq (length key) (16 * n)) start-law _ ws ok
+        (start M n key) _ vs refl same)
 
-  -- ---- finish
-  module _ (came : List ℕ) where
-    abbrev ends : Streamed × List ℕ
-    ends = finishCall (sha1 32) s came ws
+  module _ (s : State) (whole : Whole s) (ws : List ℕ) where
+    fit-some : Fit M s → 0 < s .n
+    fit-some fit = fit .allowed-shares .0
 
-    abbrev finish-words : ℕ
-    finish-words = ((s .bytes % 64 + 8) / 64 + 2) * d (s .n)
+    fit-few : Fit M s → chainWords J * s .n ≤ stateRoom
+    fit-few fit = chain-fits 32 code (s .n) (fit .allowed-shares .1)
 
-    finish-law : Fit (sha1 32) s → length came ≡ 20 → Rule finish-words (λ t. length t ≡ 20) (finish (sha1 32) s)
-    finish-law fit size =
-        counted
-        (finish-sized (sha1 32) s (fit-some fit) (sha1-size (s .n) (fit-some fit)) refl (fit-few fit) whole
-        (sha1-proper 32))
-        (ap (λ t. ((s .bytes % 64 + 8) / 64 + 2) * t) (compress-count (s .n)))
+    -- ---- feed
+    module _ (piece : List ℕ) where
+      abbrev feeds : Streamed
+      feeds = feedCall M s piece ws
 
-    pub finish-outcome : (let made = finish (sha1 32) s ws 0 in
-        Settles {A = State × List ℕ × ℕ}
-        (Asks (Fit (sha1 32) s) 6 (Asks (length came ≡ 20) 3 (Asks (finish-words ≤ length ws) 5 Done)))
-        (ends .0 .number) (closed s, made .0, made .1) (s, came, 0) (ends .0 .state, ends .1, ends .0 .drawn))
-    unfolding finishCall call
-    finish-outcome =
-        let o = call-settles 5 2 finish-words (finish (sha1 32) s) (says-fit (sha1 32) s)
-        (says-eq (length came) 20) finish-law came ws in
-        let made = finish (sha1 32) s ws 0 in
-        settles (ends .0 .number) (closed s, made .0, made .1) (s, came, 0) _ (o .given)
-        (settled-three (ends .0 .number) (closed s) s (made .0) came (made .1) 0)
+      abbrev feed-words : ℕ
+      feed-words = (s .bytes % 64 + length piece) / 64 * d (s .n)
 
-    pub finish-count : ends .0 .number ≡ 0 → ends .0 .drawn ≡ finish-words
-    unfolding finishCall
-    finish-count =
-        call-draws 5 2 finish-words (finish (sha1 32) s) (says-fit (sha1 32) s)
-        (says-eq (length came) 20) finish-law came ws
+      feed-law : Fit M s → s .bytes + length piece ≤ longestMessage
+          → Rule feed-words Whole (feed M s piece)
+      feed-law fit short =
+          counted
+          (feed-sized M s (fit-some fit) (hash-size 32 (lit< tt) code (s .n) (fit-some fit)) refl (fit-few fit) whole
+          piece)
+          (ap (λ t. (s .bytes % 64 + length piece) / 64 * t) (compress-count code (s .n)))
 
-    pub finish-past : ends .0 .number ≡ 0 → (t : State) (vs : List ℕ) → ReadAlike (SHA1 32) s t
-        → take finish-words ws ≡ take finish-words vs → (let o = finishCall (sha1 32) t came vs in
-        (o .1 ≡ ends .1) × (o .0 .number ≡ 0) × (o .0 .drawn ≡ ends .0 .drawn))
-    unfolding finishCall
-    finish-past ok t vs alike same =
-        let tests : State → List Test = λ u. test 6 (isFit (sha1 32) u) ∷ test 3 (eqb (length came) 20) ∷ [] in
-        let e : call (tests s) (finish (sha1 32) s) came ws ≡ call (tests t) (finish (sha1 32) t) came vs =
-        call-past 5 2 finish-words (finish (sha1 32) s) (says-fit (sha1 32) s)
-        (says-eq (length came) 20) finish-law came ws ok
-        (finish (sha1 32) t) came vs (finish-alike (sha1 32) s t alike vs 0) same
-        ∙ rw (alike .counts, alike .bytes-fed, alike .words-drawn, alike .marks, alike .hashes) in (
-          sym (ap (λ (o : Answer × List ℕ). o .1) e),
-          sym (ap (λ (o : Answer × List ℕ). o .0 .number) e) ∙ ok,
-          sym (ap (λ (o : Answer × List ℕ). o .0 .drawn) e),
-        )
+      pub feed-outcome : Settles {A = State × ℕ}
+          (Asks (Fit M s) 6 (Asks (s .bytes + length piece ≤ longestMessage) 4
+          (Asks (feed-words ≤ length ws) 5 Done)))
+          (feeds .number) (feed M s piece ws 0) (s, 0) (feeds .state, feeds .drawn)
+      unfolding feedCall
+      feed-outcome =
+          call-settles 5 3 feed-words (feed M s piece) (says-fit M s)
+          (says-le (s .bytes + length piece) longestMessage) feed-law s ws
+
+      pub feed-count : feeds .number ≡ 0 → feeds .drawn ≡ feed-words
+      unfolding feedCall
+      feed-count =
+          call-draws 5 3 feed-words (feed M s piece) (says-fit M s)
+          (says-le (s .bytes + length piece) longestMessage) feed-law s ws
+
+      -- what is not read of the state and of the supply has no say
+      pub feed-past : feeds .number ≡ 0 → (t : State) (vs : List ℕ) → ReadAlike J s t
+          → take feed-words ws ≡ take feed-words vs → feeds ≡ feedCall M t piece vs
+      unfolding feedCall
+      feed-past ok t vs alike same =
+          ap (λ (o : Answer × State). streamed (o .0) (o .1))
+          (call-past 5 3 feed-words (feed M s piece) (says-fit M s)
+          (says-le (s .bytes + length piece) longestMessage) feed-law s ws ok
+          (feed M t piece) t vs (feed-alike M s t alike piece vs 0) same
+          ∙ rw (alike .counts, alike .bytes-fed, alike .words-drawn, alike .marks, alike .hashes))
+
+    -- ---- finish
+    module _ (came : List ℕ) where
+      abbrev ends : Streamed × List ℕ
+      ends = finishCall M s came ws
+
+      abbrev finish-words : ℕ
+      finish-words = ((s .bytes % 64 + 8) / 64 + 2) * d (s .n)
+
+      finish-law : Fit M s → length came ≡ digestBytes J → Rule finish-words (λ t. length t ≡ digestBytes J) (finish M s)
+      finish-law fit size =
+          counted
+          (finish-sized M s (fit-some fit) (hash-size 32 (lit< tt) code (s .n) (fit-some fit)) refl (fit-few fit) whole
+          (hash-proper 32 code))
+          (ap (λ t. ((s .bytes % 64 + 8) / 64 + 2) * t) (compress-count code (s .n)))
+
+      pub finish-outcome : (let made = finish M s ws 0 in
+          Settles {A = State × List ℕ × ℕ}
+          (Asks (Fit M s) 6 (Asks (length came ≡ digestBytes J) 3 (Asks (finish-words ≤ length ws) 5 Done)))
+          (ends .0 .number) (closed s, made .0, made .1) (s, came, 0) (ends .0 .state, ends .1, ends .0 .drawn))
+      unfolding finishCall call
+      finish-outcome =
+          let o = call-settles 5 2 finish-words (finish M s) (says-fit M s)
+          (says-eq (length came) (digestBytes J)) finish-law came ws in
+          let made = finish M s ws 0 in
+          settles (ends .0 .number) (closed s, made .0, made .1) (s, came, 0) _ (o .given)
+          (settled-three (ends .0 .number) (closed s) s (made .0) came (made .1) 0)
+
+      pub finish-count : ends .0 .number ≡ 0 → ends .0 .drawn ≡ finish-words
+      unfolding finishCall
+      finish-count =
+          call-draws 5 2 finish-words (finish M s) (says-fit M s)
+          (says-eq (length came) (digestBytes J)) finish-law came ws
+
+      pub finish-past : ends .0 .number ≡ 0 → (t : State) (vs : List ℕ) → ReadAlike J s t
+          → take finish-words ws ≡ take finish-words vs → (let o = finishCall M t came vs in
+          (o .1 ≡ ends .1) × (o .0 .number ≡ 0) × (o .0 .drawn ≡ ends .0 .drawn))
+      unfolding finishCall
+      finish-past ok t vs alike same =
+          let tests : State → List Test = λ u. test 6 (isFit M u) ∷ test 3 (eqb (length came) (digestBytes J)) ∷ [] in
+          let e : call (tests s) (finish M s) came ws ≡ call (tests t) (finish M t) came vs =
+          call-past 5 2 finish-words (finish M s) (says-fit M s)
+          (says-eq (length came) (digestBytes J)) finish-law came ws ok
+          (finish M t) came vs (finish-alike M s t alike vs 0) same
+          ∙ rw (alike .counts, alike .bytes-fed, alike .words-drawn, alike .marks, alike .hashes) in (
+            sym (ap (λ (o : Answer × List ℕ). o .1) e),
+            sym (ap (λ (o : Answer × List ℕ). o .0 .number) e) ∙ ok,
+            sym (ap (λ (o : Answer × List ℕ). o .0 .drawn) e),
+          )

@@ -1,8 +1,8 @@
--- The functions and the rotation of SHA-1: what the masked rules make of shares, and that it is what the standard
+-- The functions, the rotation and the shift of the hashes: what the masked rules make of shares, and that it is what the standard
 -- makes of words.
 use Prim.Native.Nat.{ℕ, zero, suc, _+_, _-_, _*_, _/_, _%_, _^_, _≤_, _<_}
 use mathlib.Core.Path.{_≡_, refl, sym, ap, ap₂, _∙_}
-use mathlib.Core.List.{List, [], _∷_}
+use mathlib.Core.List.{List, [], _∷_, map}
 use native.Mathlib.Nat.{mod-lt, mod-eq-of-lt, div-le-self, lt-of-le-of-lt, div-add-mod', div-lt-iff-lt-mul, zero-div}
 use native.Mathlib.Nat.{zero-mul, add-comm, add-mul, mul-assoc, mul-add-mod-self-right, mul-lt-mul-of-pos-right}
 use native.Mathlib.Omega.{arith}
@@ -124,8 +124,16 @@ rotl-is k r x h l =
     let g : x / 2 ^ j < 2 ^ r = div-lt-iff-lt-mul (pow-pos j) .1 q in
     rw p (xor-shifted (x % 2 ^ j) r (x / 2 ^ j) g ∙ sym (or-shifted (x % 2 ^ j) r (x / 2 ^ j) g))
 
+pub fallen-lt : (k r x : ℕ) → x < 2 ^ k → x / 2 ^ r < 2 ^ k
+fallen-lt k r x h = lt-of-le-of-lt (div-le-self x (2 ^ r)) h
+
 pub ROTL-lt : (k r x : ℕ) → x < 2 ^ k → ROTL k r x < 2 ^ k
 unfolding ROTL
 ROTL-lt k r x h =
-    let low = lt-of-le-of-lt (div-le-self x (2 ^ (k - r))) h in
-    or-lt k (shift k r x) (x / 2 ^ (k - r)) (shift-lt k r x) low
+    or-lt k (shift k r x) (x / 2 ^ (k - r)) (shift-lt k r x) (fallen-lt k (k - r) x h)
+
+-- ---- and so does the shift to the right
+pub fallen-opens : (r : ℕ) (x : List ℕ) → opened (map (λ v. v / 2 ^ r) x) ≡ opened x / 2 ^ r
+unfolding opened
+fallen-opens r [] = sym (zero-div (2 ^ r))
+fallen-opens r (a ∷ x) = ap (bitXor (a / 2 ^ r)) (fallen-opens r x) ∙ sym (xor-shr a (opened x) r)

@@ -13,7 +13,9 @@ pub mod Bytes
 pub mod Loops
 pub mod Short
 pub mod Goods
+pub mod Compressions
 pub mod MaskedSha1
+pub mod MaskedSha256
 pub mod Hashes
 pub mod MaskedHmac
 pub mod Keys

@@ -12,9 +12,9 @@ use lib.Seq.{drop-cons, take-all, length-take-le, take-suc, append-snoc, getD-at
 use Rattle.words.proofs.Stores.{take-sets, filled-next, filled-end, set-last}
 use Rattle.words.specs.Word.{minus}
 use Rattle.rules.specs.Supply.{next, opened, split}
-use Rattle.rules.specs.Numbers.{largest}
 use Rattle.rules.specs.Shares.{Step, each, pass, along, order, column, cross, and, doubleXor, carries, add, expand}
-use Rattle.rules.specs.Sha1.{chainRoom, used}
+use Rattle.rules.specs.Hash.{Hash, chainWords}
+use Rattle.rules.specs.Hmac.{used}
 use Rattle.rules.specs.Counts.{andDraws, addDraws}
 use Rattle.rules.proofs.Openings.{length-each, each-at}
 use Rattle.rules.proofs.Bytes.{map-at}
@@ -318,11 +318,12 @@ split-made value at p mask s ws m h e f =
     let front : length m ≡ last = sym (ap (λ (r : Run). length (r .0)) drawn) ∙ next-rule last .makes ws at in
     rw (sub-zero last, drawn, f, set-last m s (bitXor value (opened m)) last front (omega arith))
 
--- ---- the array of a chain record that is handed over, as the checker knows it
-pub chain-length : (a : List ℕ) → length (map (λ (v : ℕ). v) a) ≡ chainRoom → length a ≡ chainRoom
-chain-length a e = sym (length-map a (λ (v : ℕ). v)) ∙ e
+-- ---- an array that is handed over, as the checker knows it
+pub array-length : {m : ℕ} (a : List ℕ) → length (map (λ (v : ℕ). v) a) ≡ m → length a ≡ m
+array-length a e = sym (length-map a (λ (v : ℕ). v)) ∙ e
 
--- of its words 5n are used
-pub length-used : (n : ℕ) (chain : List ℕ) → n ≤ largest → length chain ≡ chainRoom → length (used n chain) ≡ 5 * n
+-- of a chain's record the words in use
+pub length-used : (H : Hash) (n : ℕ) (chain : List ℕ) → chainWords H * n ≤ length chain
+    → length (used H n chain) ≡ chainWords H * n
 unfolding used
-length-used n chain few whole = length-take-le (5 * n) chain (omega arith)
+length-used H n chain room = length-take-le (chainWords H * n) chain room

@@ -1,28 +1,30 @@
--- The masked compression opens to the standard's, with any addition that adds; and SHA-1 in shares is a hash that keeps openings.
-use Prim.Native.Nat.{ℕ, zero, suc, _-_, _*_, _^_, _≤_, _<_}
+-- The parts of a masked compression open to the standard's, with any addition that adds; so each hash in shares keeps
+-- openings.
+use Prim.Native.Nat.{ℕ, _-_, _*_, _/_, _^_, _≤_, _<_}
 use mathlib.Core.Path.{_≡_, refl, ap, _∙_}
 use mathlib.Core.List.{List}
 use native.Mathlib.Nat.{lt-of-lt-of-le}
 use native.Mathlib.Omega.{arith}
 use lib.Bits.{bitXor, xor-lt, xor-zero-r}
-use lib.Dec.{lit<}
-use lib.ListN.{length, getD, length-map, length-replicate}
+use lib.Dec.{lit<, lit≤}
+use lib.ListN.{length, length-map, length-replicate}
 use lib.Pow.{pow-mono}
 use Rattle.words.proofs.Words.{plus-lt}
 use Rattle.rules.specs.Supply.{Words, opened}
 use Rattle.rules.specs.Convert.{Adder}
-use Rattle.rules.specs.Standard.{H0, compress as compressOf}
-use Rattle.rules.specs.Sha1.{openWords, public, rotl, compress}
-use Rattle.rules.specs.Counts.{andDraws, sha1By}
+use Rattle.rules.specs.Shares.{add}
+use Rattle.rules.specs.Sha1.{openWords, public, rotl}
+use Rattle.rules.specs.Counts.{addDraws, hashOf}
 use Rattle.rules.proofs.Rule.{said}
 use Rattle.rules.proofs.Openings.{opened-zeros}
 use Rattle.rules.proofs.Addition.{split-rule}
-use Rattle.rules.proofs.Conversion.{Adds}
+use Rattle.rules.proofs.Conversion.{Adds, add-adds}
 use Rattle.rules.proofs.Functions.{plain-is, plain-lt, xors, chosen-rule, rotated-opens, rotl-is, ROTL-lt}
-use Rattle.rules.proofs.Goods.{Goods, goods-of, goods-open}
-use Rattle.rules.proofs.MaskedSha1.{Keeps, compressionOf, compress-rule}
+use Rattle.rules.proofs.Functions.{fallen-opens, fallen-lt}
+use Rattle.rules.proofs.Goods.{Goods, goods-of}
+use Rattle.rules.proofs.Compressions.{Keeps}
 use Rattle.rules.proofs.MaskedHmac.{Keeps as KeepsHash}
-use Rattle.rules.proofs.Sizes.{compression-is}
+use Rattle.rules.proofs.Sizes.{hash-keeps}
 
 -- n shares of a word of k bits
 abbrev pub Masks : ℕ → ℕ → List ℕ → ℕ → Type 0
@@ -41,7 +43,7 @@ module _ (k n : ℕ) (some : 0 < n) where
     fitting : (v : ℕ) → v < 2 ^ 32 → v < 2 ^ k
     fitting v b = lt-of-lt-of-le b (pow-mono big)
 
-    pub keeps-opening : Keeps k n (d n) adder (λ v. v < 2 ^ k) (Masks k n)
+    keeps-opening : Keeps k n (d n) adder (λ v. v < 2 ^ k) (Masks k n)
     keeps-opening =
         record {
           size = λ g. g .0;
@@ -55,37 +57,16 @@ module _ (k n : ℕ) (some : 0 < n) where
           xors = λ {x} {y} {X} {Y} g h.
               let p = xors n x y (g .0) (h .0) in (p .0, p .1 ∙ rw (g .1, h .1), xor-lt k X Y (g .2) (h .2));
           turns = λ {x} {X} r b g.
-              let rotates = rotl-is k r X (omega arith) (g .2) in
+              let rotates = rotl-is k r X (b big) (g .2) in
               (length-map x (rotl k r) ∙ g .0, rotated-opens k r x ∙ rw (g .1) rotates, ROTL-lt k r X (g .2));
+          falls = λ {x} {X} r g.
+              (length-map x (λ v. v / 2 ^ r) ∙ g .0, fallen-opens r x ∙ rw (g .1), fallen-lt k r X (g .2));
           shows = shown;
           fits = fitting;
         }
 
-    pub compress-opens : (h block ws : List ℕ) (at : ℕ) → length h ≡ 5 * n → length block ≡ 16 * n
-        → Words k (openWords n 5 h) → Words k (openWords n 16 block)
-        → openWords n 5 (compress k adder n h block ws at .0) ≡ compressOf k (openWords n 5 h) (openWords n 16 block)
-    compress-opens h block ws at lh lb uh ub =
-        goods-open (λ x X g. (g .0, g .1))
-        (compress-rule keeps-opening (masks k n 5 h lh uh) (masks k n 16 block lb ub) .makes ws at)
-
-    -- the words of the starting chain
-    fits-start : (i : ℕ) → getD H0 i 0 < 2 ^ 32
-    fits-start zero = lit< tt
-    fits-start (suc zero) = lit< tt
-    fits-start (suc (suc zero)) = lit< tt
-    fits-start (suc (suc (suc zero))) = lit< tt
-    fits-start (suc (suc (suc (suc zero)))) = lit< tt
-    fits-start (suc (suc (suc (suc (suc i))))) = lit< tt
-
-    pub sha1-opens : (ands : ℕ) → d n ≡ ands * andDraws n → KeepsHash (sha1By k adder ands) n (λ v. v < 2 ^ k) (Masks k n)
-    sha1-opens ands e =
-        record {
-          size = λ x X g. g .0;
-          compresses = λ gh gb.
-              said (compress-rule keeps-opening gh gb) (ap (λ t. compressionOf t n) e ∙ compression-is ands n) (λ z g. g);
-          shows = shown;
-          xors = keeps-opening .xors;
-          splits-one = λ v b. said (split-rule n v some) refl (λ z g. (g .0, g .1, b));
-          starts = λ i b. fitting _ (fits-start i);
-          fits = fitting;
-        }
+-- the hashes as the calls take them, at 32 bits
+pub hash-opens : (code n : ℕ) → 0 < n → KeepsHash (hashOf 32 code) n (λ v. v < 2 ^ 32) (Masks 32 n)
+hash-opens code n some =
+    hash-keeps 32 (keeps-opening 32 n some (lit≤ tt) (addDraws 32) (add 32) (add-adds 32 (lit< tt)))
+    (λ v b. said (split-rule n v some) refl (λ z g. (g .0, g .1, b))) code

@@ -1,5 +1,5 @@
 -- Any run of calls from an accepted start, accepted and refused: what the state counts, and that it is fit unless
--- finished. crates/claims has it of SHA-1.
+-- finished. crates/claims has it of the calls.
 use Prim.Native.Nat.{ℕ, zero, suc, _+_, _*_, _≤_, _<_}
 use mathlib.Core.Path.{_≡_, refl, sym, ap, ap₂, _∙_, subst}
 use mathlib.Core.Bool.{Bool, true, false}
@@ -11,24 +11,23 @@ use Rattle.rules.specs.declared.State.{State}
 use Rattle.rules.specs.declared.Streamed.{Streamed}
 use Rattle.rules.specs.Numbers.{largest, longestMessage, allowed, test, first, settled}
 use Rattle.rules.specs.Hash.{blockBytes, chainWords}
-use Rattle.rules.specs.Sha1.{chainRoom}
 use Rattle.rules.specs.Hmac.{Masked}
-use Rattle.rules.specs.Counts.{feedDraws, stateDraws, sha1}
+use Rattle.rules.specs.Counts.{feedDraws, stateDraws, hashOf}
 use Rattle.rules.specs.Calls.{call}
-use Rattle.rules.specs.Stream.{isFit, state, feed, startCall, feedCall, finishCall, closed, Reached}
+use Rattle.rules.specs.Stream.{stateRoom, isFit, state, feed, startCall, feedCall, finishCall, closed, Reached}
 use Rattle.rules.specs.Stream.{starts, feeds, finishes}
 use Rattle.rules.specs.Outcome.{Fit, Whole}
 use Rattle.rules.proofs.Allowed.{within}
 use Rattle.rules.proofs.Hashes.{Proper}
 use Rattle.rules.proofs.MaskedHmac.{Keeps}
-use Rattle.rules.proofs.Sizes.{Sized, chain-fits}
-use Rattle.rules.proofs.Tags.{sha1-proper}
+use Rattle.rules.proofs.Sizes.{Sized, hash-size, chain-fits}
+use Rattle.rules.proofs.Tags.{hash-proper}
 use Rattle.rules.proofs.Outcomes.{says-fit, passed as says-passed}
 use Rattle.rules.proofs.Calls.{settled-refused}
 use Rattle.rules.proofs.Streaming.{state-count, state-next, made-whole}
 use Rattle.rules.proofs.Runs.{fed-state, fed-drawn, fed-short}
 use Rattle.rules.proofs.StreamCalls.{feed-sized}
-use Rattle.rules.proofs.AtStreams.{start-drawn, start-asked, start-place, begun, sizes-of}
+use Rattle.rules.proofs.AtStreams.{start-drawn, start-asked, start-place, begun}
 
 -- ---- a refused feed
 module _ (M : Masked) (s : State) (piece ws : List ℕ) (no : feedCall M s piece ws .number ≡ 0 → ⊥) where
@@ -88,7 +87,7 @@ pub record Counted (M : Masked) (n bytes words : ℕ) (s : State) : Type 0 where
 
 module _ (M : Masked) (proper : Proper (M .standard)) (sixty-four : blockBytes (M .standard) ≡ 64)
     (sizes : (n : ℕ) → 0 < n → Keeps M n (λ v. Unit {0}) (Sized n))
-    (room : (n : ℕ) → n ≤ largest → chainWords (M .standard) * n ≤ chainRoom) (n : ℕ) where
+    (room : (n : ℕ) → n ≤ largest → chainWords (M .standard) * n ≤ stateRoom) (n : ℕ) where
   begun-counts : (key ws : List ℕ) → startCall M n key ws .number ≡ 0
       → (let r = startCall M n key ws in Counted M n 0 (r .drawn) (r .state))
   unfolding state begun
@@ -124,7 +123,7 @@ module _ (M : Masked) (proper : Proper (M .standard)) (sixty-four : blockBytes (
           let c = counted in
           let count = within n (c .allowed-shares) in
           let some : 0 < s .n = rw (c .shares) (count .0) in
-          let few : chainWords (M .standard) * s .n ≤ chainRoom = rw (c .shares) (room n (count .1)) in
+          let few : chainWords (M .standard) * s .n ≤ stateRoom = rw (c .shares) (room n (count .1)) in
           let rule = feed-sized M s some (sizes (s .n) some) sixty-four few (c .whole) piece in
           let draws : r .drawn ≡ feedDraws M n bytes l =
           fed-drawn M s piece ws ok ∙ rule .place ws 0 ∙ zero-add _ ∙ rw (c .shares, c .taken-bytes) in
@@ -194,10 +193,12 @@ module _ (M : Masked) (proper : Proper (M .standard)) (sixty-four : blockBytes (
         drawn-so = c .drawn-words ∙ c .by-rule ∙ sym (ap₂ (stateDraws M) (c .shares) (c .taken-bytes));
       }
 
--- ==== SHA-1, at any width
-module _ (k : ℕ) (wide : 0 < k) {n bytes words : ℕ} {s : State} (run : Reached (sha1 k) n bytes words s) where
-  pub sha1-counts : Counted (sha1 k) n bytes words s
-  sha1-counts = reached-counts (sha1 k) (sha1-proper k) refl (sizes-of k wide) (chain-fits k) n run
+-- ==== the hashes of the calls, at any width
+module _ (k : ℕ) (wide : 0 < k) (code : ℕ) {n bytes words : ℕ} {s : State}
+    (run : Reached (hashOf k code) n bytes words s) where
+  pub hash-counts : Counted (hashOf k code) n bytes words s
+  hash-counts =
+      reached-counts (hashOf k code) (hash-proper k code) refl (hash-size k wide code) (chain-fits k code) n run
 
-  pub sha1-fit : s .finished ≡ 0 → Fit (sha1 k) s
-  sha1-fit = reached-fit (sha1 k) (sha1-proper k) refl (sizes-of k wide) (chain-fits k) n run
+  pub hash-fit : s .finished ≡ 0 → Fit (hashOf k code) s
+  hash-fit = reached-fit (hashOf k code) (hash-proper k code) refl (hash-size k wide code) (chain-fits k code) n run

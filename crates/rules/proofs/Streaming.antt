@@ -9,10 +9,10 @@ use lib.Seq.{take-at, drop-at, drop-drop, drop-append-le}
 use Rattle.rules.specs.declared.State.{State}
 use Rattle.rules.specs.Supply.{Rule}
 use Rattle.rules.specs.Hash.{Hash, blockBytes, chainWords, wordsOf, ending, blocks as blocksOf}
-use Rattle.rules.specs.Sha1.{publics, chainRoom}
+use Rattle.rules.specs.Sha1.{publics}
 use Rattle.rules.specs.Hmac.{Masked, digestPadding, tagOf}
 use Rattle.rules.specs.Counts.{startDraws, feedDraws, finishDraws, stateDraws}
-use Rattle.rules.specs.Stream.{inUse, waiting, ReadAlike, state, start, fedFrom, finishedFrom, fullBlocks, feed, finish}
+use Rattle.rules.specs.Stream.{stateRoom, inUse, waiting, ReadAlike, state, start, fedFrom, finishedFrom, fullBlocks, feed, finish}
 use Rattle.rules.specs.Outcome.{Whole}
 use Rattle.rules.proofs.Rule.{give, bind, said, counted}
 use Rattle.rules.proofs.Bytes.{length-words, words-front, words-split}
@@ -243,12 +243,12 @@ module _ (M : Masked) (n bytes : ℕ) (inner outer waits : List ℕ) where
     s = state M n bytes inner outer waits
 
     -- it has its type's sizes
-    pub made-whole : blockBytes U ≡ 64 → chainWords U * n ≤ chainRoom → Whole s
+    pub made-whole : blockBytes U ≡ 64 → chainWords U * n ≤ stateRoom → Whole s
     unfolding state
     made-whole sixty-four room =
         record {
-          inner-whole = length-filled chainRoom inner (omega (arith, made .inner-size));
-          outer-whole = length-filled chainRoom outer (omega (arith, made .outer-size));
+          inner-whole = length-filled stateRoom inner (omega (arith, made .inner-size));
+          outer-whole = length-filled stateRoom outer (omega (arith, made .outer-size));
           tail-whole = length-filled 64 waits (rw (made .waits-size, sixty-four) (omega arith));
         }
 

@@ -1,6 +1,6 @@
--- A split key opens to the key block, and the tag of a masked HMAC is the standard's: over any hash in shares, and of
--- SHA-1.
-use Prim.Native.Nat.{ℕ, zero, suc, _+_, _*_, _-_, _%_, _^_, _<_}
+-- A split key opens to the key block, and the tag of a masked HMAC is the standard's: over any hash in shares. And
+-- what is asked of a hash holds of both.
+use Prim.Native.Nat.{ℕ, zero, suc, _+_, _*_, _-_, _/_, _%_, _^_, _≤_, _<_}
 use mathlib.Core.Path.{_≡_, refl, sym, ap, _∙_}
 use mathlib.Core.List.{List, [], _∷_}
 use native.Mathlib.Omega.{arith}
@@ -9,7 +9,10 @@ use lib.Pow.{pow-pos}
 use Rattle.words.proofs.Words.{plus-lt}
 use Rattle.rules.specs.Supply.{Words}
 use Rattle.rules.specs.Hash.{Hash, blockBytes, bytesOf, wordsOf, allBytes, zeros, padding, filled, keyBlock, hmac}
-use Rattle.rules.specs.Standard.{SHA1, round, rounds, schedule, sums, compress}
+use Rattle.rules.specs.Hash.{chainWords, digestBytes, schedule, rounds, sums}
+use Rattle.rules.specs.Standard.{following, round, compress}
+use Rattle.rules.specs.Standard256.{following as following256, round as round256, compress as compress256}
+use Rattle.rules.specs.Counts.{standardOf}
 use Rattle.rules.specs.Sha1.{openWords}
 use Rattle.rules.specs.Hmac.{Masked, keyWords, splitKey, hmacTag}
 use Rattle.rules.proofs.Bytes.{words-join, words-zeros, bytes-are-words, length-bytes}
@@ -52,12 +55,7 @@ module _ (M : Masked) (n : ℕ) (some : 0 < n) (proper : Proper (M .standard)) (
       ap (allBytes (H .wordBytes)) (goods-open (λ x X g. (g .0, g .1)) (rule .makes ws at) ∙ ap (λ t. hmacOf H t text) shared)
       ∙ hmacOf-is H proper chains key keys text
 
--- ---- SHA-1 is a proper hash
-length-rounds : (k m t : ℕ) (W s : List ℕ) → length s ≡ 5 → length (rounds k W m t s) ≡ 5
-unfolding rounds round
-length-rounds k zero t W s h = h
-length-rounds k (suc m) t W s h = length-rounds k m (t + 1) W _ refl
-
+-- ---- both hashes are proper
 length-sums : (k : ℕ) (h s : List ℕ) → length s ≡ length h → length (sums k h s) ≡ length h
 unfolding sums
 length-sums k [] s e = refl
@@ -71,23 +69,44 @@ words-sums k (x ∷ h) [] i = pow-pos k
 words-sums k (x ∷ h) (y ∷ s) zero = plus-lt k x y
 words-sums k (x ∷ h) (y ∷ s) (suc i) = words-sums k h s i
 
-pub sha1-chains : Chains (SHA1 32)
-unfolding compress
-sha1-chains h B l =
-    let s = rounds 32 (schedule 32 64 B) 80 0 h in
-    (length-sums 32 h s (length-rounds 32 80 0 (schedule 32 64 B) h l ∙ sym l) ∙ l, words-sums 32 h s)
+-- a round of so many words makes as many
+module _ {words : ℕ} (round : ℕ → ℕ → List ℕ → List ℕ) (size : (t w : ℕ) (s : List ℕ) → length (round t w s) ≡ words) where
+  length-rounds : (m t : ℕ) (W s : List ℕ) → length s ≡ words → length (rounds round W m t s) ≡ words
+  unfolding rounds
+  length-rounds zero t W s h = h
+  length-rounds (suc m) t W s h = length-rounds m (t + 1) W _ (size t (getD W t 0) s)
 
-sha1-padding : (k l : ℕ) → length (padding (SHA1 k) l) ≡ 9 + (119 - l % 64) % 64
+  chained : (k m : ℕ) (W h : List ℕ) → length h ≡ words
+      → (let z = sums k h (rounds round W m 0 h) in (length z ≡ words) × Words k z)
+  chained k m W h l =
+      let s = rounds round W m 0 h in
+      (length-sums k h s (length-rounds m 0 W h l ∙ sym l) ∙ l, words-sums k h s)
+
+pub hash-chains : (code : ℕ) → Chains (standardOf 32 code)
+unfolding compress compress256 round round256
+hash-chains zero h B l = chained (λ t. round 32 (t / 20)) (λ t w s. refl) 32 80 (schedule (following 32) 64 B) h l
+hash-chains (suc code) h B l = chained (round256 32) (λ t w s. refl) 32 64 (schedule (following256 32) 48 B) h l
+
+padded : (k code l : ℕ) → length (padding (standardOf k code) l) ≡ 9 + (119 - l % 64) % 64
 unfolding padding zeros
-sha1-padding k l =
-    ap suc (length-append (replicate (zeros (SHA1 k) l) 0) (bytesOf 8 (l * 8)))
-    ∙ rw (length-replicate {A = ℕ} (zeros (SHA1 k) l) 0, length-bytes 8 (l * 8)) (omega arith)
+padded k code l =
+    let H = standardOf k code in
+    ap suc (length-append (replicate (zeros H l) 0) (bytesOf 8 (l * 8)))
+    ∙ rw (length-replicate {A = ℕ} (zeros H l) 0, length-bytes 8 (l * 8)) (omega arith)
 
-pub sha1-proper : (k : ℕ) → Proper (SHA1 k)
-sha1-proper k =
+pub hash-proper : (k code : ℕ) → Proper (standardOf k code)
+hash-proper k code =
     record {
       some = omega arith;
-      whole = λ l. omega (arith, sha1-padding k l);
-      rest = omega (arith, sha1-padding k 84);
-      short = omega arith;
+      whole = λ l. omega (arith, padded k code l);
+      rest = rest code;
+      short = short code;
     }
+  where
+    rest : (code : ℕ) → (let H = standardOf k code in length (padding H (blockBytes H + digestBytes H)) ≡ (16 - chainWords H) * 4)
+    rest zero = omega (arith, padded k 0 84)
+    rest (suc code) = omega (arith, padded k (suc code) 96)
+
+    short : (code : ℕ) → chainWords (standardOf k code) ≤ 16
+    short zero = omega arith
+    short (suc code) = omega arith

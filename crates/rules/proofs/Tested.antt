@@ -3,8 +3,8 @@
 use Prim.Native.Nat.{ℕ, _+_, _*_, _-_, _^_, _≤_, _<_}
 use mathlib.Core.Path.{_≡_, sym, _∙_}
 use mathlib.Core.Bool.{Bool, true}
-use mathlib.Core.List.{List, [], _∷_, map}
-use native.Mathlib.Nat.{zero-add}
+use mathlib.Core.List.{List, [], _∷_}
+use native.Mathlib.Nat.{zero-add, mul-le-mul-left}
 use native.Mathlib.Omega.{arith}
 use lib.Dec.{eqb, leb}
 use lib.ListN.{length, getD}
@@ -12,28 +12,28 @@ use mir.Syntax.{w32}
 use mir.Val.{Fits}
 use borrow.Author.Tests.{eqb-true, leb-true}
 use Rattle.rules.specs.declared.Answer.{Answer}
-use Rattle.rules.specs.declared.Chain.{Chain}
 use Rattle.rules.specs.Supply.{Draw, Rule, split}
 use Rattle.rules.specs.Numbers.{largest, longestKey, longestMessage, both, power, allowed, Test, test, first}
 use Rattle.rules.specs.Shares.{refresh, expand, and, add}
 use Rattle.rules.specs.Convert.{toBool, toArith}
 use Rattle.rules.specs.Short.{toArithShort}
 use Rattle.rules.specs.Counts.{refreshDraws, andDraws, addDraws, toBoolDraws, toArithDraws, shortDraws}
-use Rattle.rules.specs.Counts.{compressDraws, keyDraws, hmacDraws, sha1}
-use Rattle.rules.specs.Sha1.{compress, chainRoom, used, chainOf}
-use Rattle.rules.specs.Hmac.{Masked, splitKey, hmacTag}
-use Rattle.rules.specs.Calls.{oneTests, twoTests, openCall, query, compressCall}
+use Rattle.rules.specs.Counts.{keyDraws, hmacDraws, standardOf, hashOf}
+use Rattle.rules.specs.Hash.{chainWords, digestBytes}
+use Rattle.rules.specs.Hmac.{Masked, chainRoom, used, splitKey, hmacTag}
+use Rattle.rules.specs.Calls.{oneTests, twoTests, openCall, query, compressed}
 use Rattle.rules.specs.Stream.{fit}
 use Rattle.rules.proofs.Openings.{opened-lt}
 use Rattle.rules.proofs.Pairs.{refresh-rule, and-rule}
 use Rattle.rules.proofs.Addition.{add-loop-rule, expand-rule, split-rule}
 use Rattle.rules.proofs.Conversion.{add-adds, refresh-refreshes, toBool-rule, toArith-rule}
 use Rattle.rules.proofs.Short.{toArithShort-rule}
-use Rattle.rules.proofs.Sizes.{sha1-size, compress-sized, hmacTag-sized, splitKey-sized}
-use Rattle.rules.proofs.Tags.{sha1-proper}
-use Rattle.rules.proofs.Loops.{chain-length, length-used}
+use Rattle.rules.proofs.Sizes.{Sized, hash-size, compress-sized, hmacTag-sized, splitKey-sized}
+use Rattle.rules.proofs.Tags.{hash-proper}
+use Rattle.rules.proofs.MaskedHmac.{Keeps}
+use Rattle.rules.proofs.Loops.{length-used}
 use Rattle.rules.proofs.Allowed.{both-true, power-within, within}
-use Rattle.rules.proofs.Calls.{passed, holds, same-test, settled-refused, tells}
+use Rattle.rules.proofs.Calls.{passed, holds, settled-refused, tells}
 
 -- a query refuses nothing of a share count that is taken, with a text that fits
 pub taken : {counted : Bool} → counted ≡ true → first (test 1 counted ∷ []) ≡ 0
@@ -223,28 +223,48 @@ module _ (n : ℕ) (came ws : List ℕ) (q : Answer) where
       add-needs k wide e =
           needs (addDraws k n) q _ ws e (taken count-two) (add-loop-rule k n x y wide (sizes-two .0) (sizes-two .1))
 
+module _ (code n : ℕ) (came ws : List ℕ) (q : Answer) where
+  abbrev M : Masked
+  M = hashOf 32 code
+
+  keeps : allowed n ≡ true → Keeps M n (λ v. Unit {0}) (Sized n)
+  keeps count = hash-size 32 (omega arith) code n (within n count .0)
+
   pub splitKey-needs : (key : List ℕ)
       → first (test 1 (allowed n) ∷ test 3 (eqb (length came) (16 * n)) ∷ test 4 (leb (length key) longestKey) ∷ []) ≡ 0
-      → query (test 1 (allowed n) ∷ test 4 (leb (length key) longestKey) ∷ []) (keyDraws (sha1 32) n (length key)) ≡ q
-      → splitKey (sha1 32) n key ws 0 .1 ≡ q .drawn
+      → query (test 1 (allowed n) ∷ test 4 (leb (length key) longestKey) ∷ []) (keyDraws M n (length key)) ≡ q
+      → splitKey M n key ws 0 .1 ≡ q .drawn
   splitKey-needs key h e =
       let p = passed _ h in
       let count = holds _ _ (p .0) in
-      needs (keyDraws (sha1 32) n (length key)) q _ ws e (taken-text n _ count (holds _ _ (p .1 .1 .0)))
-      (splitKey-sized (sha1 32) n (within n count .0) (sha1-size n (within n count .0)) (sha1-proper 32) key)
+      needs (keyDraws M n (length key)) q _ ws e (taken-text n _ count (holds _ _ (p .1 .1 .0)))
+      (splitKey-sized M n (within n count .0) (keeps count) (hash-proper 32 code) key)
 
   pub hmacTag-needs : (key text : List ℕ)
       → first
-      (test 1 (allowed n)
-      ∷ test 2 (eqb (length key) (16 * n)) ∷ test 3 (eqb (length came) 20) ∷ test 4 (leb (length text) longestMessage) ∷ []) ≡ 0
-      → query (test 1 (allowed n) ∷ test 4 (leb (length text) longestMessage) ∷ []) (hmacDraws (sha1 32) n (length text)) ≡ q
-      → hmacTag (sha1 32) n key text ws 0 .1 ≡ q .drawn
+      (test 1 (allowed n) ∷ test 2 (eqb (length key) (16 * n))
+      ∷ test 3 (eqb (length came) (digestBytes (standardOf 32 code))) ∷ test 4 (leb (length text) longestMessage) ∷ []) ≡ 0
+      → query (test 1 (allowed n) ∷ test 4 (leb (length text) longestMessage) ∷ []) (hmacDraws M n (length text)) ≡ q
+      → hmacTag M n key text ws 0 .1 ≡ q .drawn
   hmacTag-needs key text h e =
       let p = passed _ h in
       let count = holds _ _ (p .0) in
       let size = eqb-true (length key) (16 * n) (holds _ _ (p .1 .0)) in
-      needs (hmacDraws (sha1 32) n (length text)) q _ ws e (taken-text n _ count (holds _ _ (p .1 .1 .1 .0)))
-      (hmacTag-sized (sha1 32) n (within n count .0) (sha1-size n (within n count .0)) (sha1-proper 32) key text size)
+      needs (hmacDraws M n (length text)) q _ ws e (taken-text n _ count (holds _ _ (p .1 .1 .1 .0)))
+      (hmacTag-sized M n (within n count .0) (keeps count) (hash-proper 32 code) key text size)
+
+  -- a compression into a chain record that has room
+  pub compress-needs : (chain block : List ℕ) → length chain ≡ chainRoom (standardOf 32 code)
+      → first (test 1 (allowed n) ∷ test 2 (eqb (length block) (16 * n)) ∷ []) ≡ 0
+      → query (test 1 (allowed n) ∷ []) (M .draws n) ≡ q → compressed M n chain block ws 0 .1 ≡ q .drawn
+  compress-needs chain block whole h e =
+      let p = passed _ h in
+      let count = holds _ _ (p .0) in
+      let H = standardOf 32 code in
+      let room = length-used H n chain (rw whole (mul-le-mul-left (chainWords H) (within n count .1))) in
+      let rule = compress-sized M n (within n count .0) (keeps count) (used H n chain) block room
+      (eqb-true (length block) (16 * n) (holds _ _ (p .1 .0))) in
+      rule .place ws 0 ∙ zero-add _ ∙ tells _ _ q e (taken count)
 
 -- refresh works on a copy, and splitting by the length of its output
 pub refresh-copied : (x y ws : List ℕ) (r : List ℕ × ℕ) → y ≡ x → refresh y ws 0 ≡ r → refresh x ws 0 ≡ r
@@ -254,41 +274,6 @@ pub split-sized : (n value need have number : ℕ) (came ws : List ℕ) (r : Lis
     → first (test 1 (allowed n) ∷ test 3 (eqb (length came) n) ∷ test 5 (leb need have) ∷ []) ≡ number → number ≡ 0
     → split (length came) value ws 0 ≡ r → split n value ws 0 ≡ r
 split-sized n value need have number came ws r is z e = rw (eqb-true (length came) n (holds _ _ (passed _ (is ∙ z) .1 .0))) at e
-
--- ---- a compression: refused, with the chain as it was given, or done
-module _ (n number : ℕ) (chain : Chain) (block ws : List ℕ) (q : Answer)
-    (is : first (test 1 (allowed n) ∷ test 2 (eqb (length block) (16 * n)) ∷ test 5 (leb (q .drawn) (length ws)) ∷ []) ≡ number)
-    (e : query (test 1 (allowed n) ∷ []) (compressDraws 32 n) ≡ q)
-    (good : length (map (λ (v : ℕ). v) (chain .shares)) ≡ chainRoom) where
-  abbrev made : List ℕ × ℕ
-  made = compress 32 (add 32) n (used n (chain .shares)) block ws 0
-
-  full : n ≤ largest → length (used n (chain .shares)) ≡ 5 * n
-  full few = length-used n (chain .shares) few (chain-length (chain .shares) good)
-
-  abbrev before : List Test
-  before = test 1 (allowed n) ∷ test 2 (eqb (length block) (16 * n)) ∷ []
-
-  draws : first before ≡ 0 → made .1 ≡ q .drawn
-  draws h =
-      let p = passed _ h in
-      let count = holds _ _ (p .0) in
-      let size = eqb-true (length block) (16 * n) (holds _ _ (p .1 .0)) in
-      needs (compressDraws 32 n) q _ ws e (taken count)
-      (compress-sized (sha1 32) n (within n count .0) (sha1-size n (within n count .0)) (used n (chain .shares)) block
-      (full (within n count .1)) size)
-
-  own : first (test 1 (allowed n) ∷ test 2 (eqb (length block) (16 * n)) ∷ test 5 (leb (made .1) (length ws)) ∷ []) ≡ number
-  own = sym (same-test before [] 5 (q .drawn) (made .1) (length ws) draws) ∙ is
-
-  pub compress-refused : (number ≡ 0 → ⊥) → compressCall 32 n chain block ws ≡ record { number = number; drawn = 0; chain = chain }
-  compress-refused h =
-      rw (own, settled-refused number (made .1) 0 h, settled-refused number (record { shares = chainOf n (made .0) }) chain h)
-
-  pub compress-done : number ≡ 0 → (next : Chain) (drawn : ℕ) → made ≡ (used n (next .shares), drawn)
-      → next .shares ≡ chainOf n (used n (next .shares))
-      → compressCall 32 n chain block ws ≡ record { number = 0; drawn = drawn; chain = next }
-  compress-done z next drawn f g = rw (own, z, f, ← g)
 
 -- ---- an opening
 module _ (n number word : ℕ) (x : List ℕ) (is : first (test 1 (allowed n) ∷ test 2 (eqb (length x) n) ∷ []) ≡ number) where

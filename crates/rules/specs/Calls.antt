@@ -8,8 +8,6 @@ use lib.ListN.{length}
 use Rattle.words.specs.Word.{Width, Word, plus, minus}
 use Rattle.rules.specs.declared.Answer.{Answer}
 use Rattle.rules.specs.declared.Opened.{Opened}
-use Rattle.rules.specs.declared.Chain.{Chain}
-use Rattle.rules.specs.declared.Compressed.{Compressed}
 use Rattle.rules.specs.Supply.{Draw, Count, Supply, Sharing, split, opened, openedSum}
 use Rattle.rules.specs.Numbers.{longestKey, longestMessage, both, power, allowed}
 use Rattle.rules.specs.Numbers.{Test, test, first, settled, told}
@@ -17,12 +15,10 @@ use Rattle.rules.specs.Goubin.{b2aRecord, a2bRecord}
 use Rattle.rules.specs.Shares.{refresh, expand, and, add}
 use Rattle.rules.specs.Convert.{toBool, toArith}
 use Rattle.rules.specs.Short.{toArithShort}
-use Rattle.rules.specs.Sha1.{compress, used, chainOf}
 use Rattle.rules.specs.Hash.{Bytes, digestBytes}
-use Rattle.rules.specs.Standard.{SHA1}
-use Rattle.rules.specs.Hmac.{splitKey, hmacTag}
+use Rattle.rules.specs.Hmac.{Masked, used, chainOf, splitKey, hmacTag}
 use Rattle.rules.specs.Counts.{refreshDraws, andDraws, addDraws, toBoolDraws, toArithDraws, shortDraws}
-use Rattle.rules.specs.Counts.{compressDraws, keyDraws, hmacDraws, sha1}
+use Rattle.rules.specs.Counts.{keyDraws, hmacDraws}
 
 -- ---- two shares: working forms take plain numbers and refuse nothing
 -- x − r, from x′ and r with x = x′ ⊕ r
@@ -91,28 +87,31 @@ b2aCall k n x = oneCall (allowed n) n n x (toArith k (add k) refresh x)
 abbrev pub b2aShortCall : Width → Count → Sharing → Sharing → Supply → Answer × Sharing
 b2aShortCall k n x = oneCall (power n) n n x (toArithShort k x)
 
--- ---- SHA-1 and HMAC
-abbrev pub splitKeyCall : Width → Count → Bytes → Sharing → Supply → Answer × Sharing
-splitKeyCall k n key came =
+-- ---- a hash in shares, and HMAC
+abbrev pub splitKeyCall : Masked → Count → Bytes → Sharing → Supply → Answer × Sharing
+splitKeyCall M n key came =
     call
     (test 1 (allowed n) ∷ test 3 (eqb (length came) (16 * n)) ∷ test 4 (leb (length key) longestKey) ∷ [])
-    (splitKey (sha1 k) n key)
+    (splitKey M n key)
     came
 
-abbrev pub hmacCall : Width → Count → Sharing → Bytes → Bytes → Supply → Answer × Bytes
-hmacCall k n key text came =
+abbrev pub hmacCall : Masked → Count → Sharing → Bytes → Bytes → Supply → Answer × Bytes
+hmacCall M n key text came =
     call
-    (test 1 (allowed n) ∷ test 2 (eqb (length key) (16 * n)) ∷ test 3 (eqb (length came) (digestBytes (SHA1 k)))
-    ∷ test 4 (leb (length text) longestMessage) ∷ [])
-    (hmacTag (sha1 k) n key text)
+    (test 1 (allowed n) ∷ test 2 (eqb (length key) (16 * n))
+    ∷ test 3 (eqb (length came) (digestBytes (M .standard))) ∷ test 4 (leb (length text) longestMessage) ∷ [])
+    (hmacTag M n key text)
     came
 
--- a refused compression returns the chain record exactly as given
-abbrev pub compressCall : Width → Count → Chain → Sharing → Supply → Compressed
-compressCall k n chain block ws =
-    let made = compress k (add k) n (used n (chain .shares)) block ws 0 in
-    let number = first (test 1 (allowed n) ∷ test 2 (eqb (length block) (16 * n)) ∷ test 5 (leb (made .1) (length ws)) ∷ []) in
-    record { number = number; drawn = settled number (made .1) 0; chain = settled number (record { shares = chainOf n (made .0) }) chain }
+-- one compression, of a block into a chain record; refused, that is returned exactly as given
+abbrev pub compressed : Masked → Count → Sharing → Sharing → Draw Sharing
+compressed M n chain block ws at =
+    let made = M .compress n (used (M .standard) n chain) block ws at in
+    (chainOf (M .standard) n (made .0), made .1)
+
+abbrev pub compressCall : Masked → Count → Sharing → Sharing → Supply → Answer × Sharing
+compressCall M n chain block =
+    call (test 1 (allowed n) ∷ test 2 (eqb (length block) (16 * n)) ∷ []) (compressed M n chain block) chain
 
 -- ---- opening: no count, and the word 0 where it is refused
 abbrev pub openCall : Count → Sharing → Word → Opened
@@ -154,11 +153,11 @@ b2aWords k n = query (test 1 (allowed n) ∷ []) (toArithDraws (addDraws k) refr
 abbrev pub b2aShortWords : Count → Answer
 b2aShortWords n = query (test 1 (power n) ∷ []) (shortDraws n)
 
-abbrev pub splitKeyWords : Width → Count → ℕ → Answer
-splitKeyWords k n length = query (test 1 (allowed n) ∷ test 4 (leb length longestKey) ∷ []) (keyDraws (sha1 k) n length)
+abbrev pub splitKeyWords : Masked → Count → ℕ → Answer
+splitKeyWords M n length = query (test 1 (allowed n) ∷ test 4 (leb length longestKey) ∷ []) (keyDraws M n length)
 
-abbrev pub compressWords : Width → Count → Answer
-compressWords k n = query (test 1 (allowed n) ∷ []) (compressDraws k n)
+abbrev pub compressWords : Masked → Count → Answer
+compressWords M n = query (test 1 (allowed n) ∷ []) (M .draws n)
 
-abbrev pub hmacWords : Width → Count → ℕ → Answer
-hmacWords k n length = query (test 1 (allowed n) ∷ test 4 (leb length longestMessage) ∷ []) (hmacDraws (sha1 k) n length)
+abbrev pub hmacWords : Masked → Count → ℕ → Answer
+hmacWords M n length = query (test 1 (allowed n) ∷ test 4 (leb length longestMessage) ∷ []) (hmacDraws M n length)

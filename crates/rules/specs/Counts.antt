@@ -9,7 +9,9 @@ use Rattle.rules.specs.Numbers.{choose}
 use Rattle.rules.specs.Convert.{Adder, powerOfTwo}
 use Rattle.rules.specs.Hash.{Hash, blockBytes}
 use Rattle.rules.specs.Standard.{SHA1}
+use Rattle.rules.specs.Standard256.{SHA256}
 use Rattle.rules.specs.Sha1.{compress}
+use Rattle.rules.specs.Sha256.{compress as compress256}
 use Rattle.rules.specs.Hmac.{Masked, wordsFor}
 
 -- how many pairs n shares have: n(n−1)/2
@@ -70,6 +72,11 @@ compressAnds a = roundsAnds a 80 0 + 5 * a
 abbrev pub compressDraws : Width → Count → ℕ
 compressDraws k n = compressAnds k * andDraws n
 
+-- request (vii): SHA-256 makes three additions for each of 48 schedule words, two ANDs and seven additions in each of 64
+-- rounds, and eight at the end
+abbrev pub compress256Ands : ℕ → ℕ
+compress256Ands a = 48 * (3 * a) + 64 * (2 + 7 * a) + 8 * a
+
 -- a key of l bytes: n−1 for each of its words; where it is over one block, then the compressions that hash it
 abbrev pub keyDraws : Masked → Count → ℕ → ℕ
 keyDraws M n l =
@@ -102,10 +109,35 @@ finishDraws M n bytes =
 unfoldable pub stateDraws : Masked → Count → ℕ → ℕ
 stateDraws M n bytes = startDraws M n + feedDraws M n 0 bytes
 
--- ---- SHA-1 in shares is a hash in shares, with any addition, of so many ANDs; the calls take that of section 5
-abbrev pub sha1By : Width → Adder → ℕ → Masked
-sha1By k adder ands =
-    record { standard = SHA1 k; code = 0; compress = compress k adder; draws = λ n. compressAnds ands * andDraws n }
+-- ---- the hashes in shares, by the code that a state carries: 0 is SHA-1, 1 is SHA-256. Both have words of four bytes
+-- and a length of eight. The addition, of so many ANDs, may be any; the calls take that of section 5
+abbrev byCode : {A : Type 0} → ℕ → A → A → A
+byCode zero sha1 sha256 = sha1
+byCode (suc code) sha1 sha256 = sha256
+
+abbrev pub standardOf : Width → ℕ → Hash
+standardOf k code =
+    record {
+      wordBytes = 4;
+      start = byCode code (SHA1 k .start) (SHA256 k .start);
+      compress = byCode code (SHA1 k .compress) (SHA256 k .compress);
+      lengthBytes = 8;
+    }
+
+abbrev pub hashBy : Width → Adder → ℕ → ℕ → Masked
+hashBy k adder ands code =
+    record {
+      standard = standardOf k code;
+      code = code;
+      compress = byCode code (compress k adder) (compress256 k adder);
+      draws = λ n. byCode code (compressAnds ands) (compress256Ands ands) * andDraws n;
+    }
+
+abbrev pub hashOf : Width → ℕ → Masked
+hashOf k code = hashBy k (add k) k code
 
 abbrev pub sha1 : Width → Masked
-sha1 k = sha1By k (add k) k
+sha1 k = hashOf k 0
+
+abbrev pub sha256 : Width → Masked
+sha256 k = hashOf k 1

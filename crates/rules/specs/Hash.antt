@@ -4,7 +4,7 @@ use mathlib.Core.List.{List, [], _∷_, _++_, map}
 use lib.Bits.{bitXor}
 use lib.Dec.{leb}
 use lib.ListN.{length, getD, replicate, take, drop}
-use Rattle.words.specs.Word.{Word}
+use Rattle.words.specs.Word.{Width, Word, plus}
 use Rattle.rules.specs.Numbers.{choose}
 
 abbrev pub Bytes : Type 0
@@ -61,7 +61,26 @@ ending H before text =
     let rest = ended H before text in
     wordsOf (H .wordBytes) (length rest / H .wordBytes) rest
 
--- 6: the chain after m blocks
+-- 6: the word j before the end of a schedule W; m words more after those of W, each by those before it
+abbrev pub ago : ℕ → List Word → Word
+ago j W = getD W (length W - j) 0
+
+unfoldable pub schedule : (List Word → Word) → ℕ → List Word → List Word
+schedule following zero W = W
+schedule following (suc m) W = schedule following m (W ++ (following W ∷ []))
+
+-- m rounds from round t on, each with its word of the schedule
+unfoldable pub rounds : (ℕ → Word → List Word → List Word) → List Word → ℕ → ℕ → List Word → List Word
+rounds round W zero t s = s
+rounds round W (suc m) t s = rounds round W m (t + 1) (round t (getD W t 0) s)
+
+-- the new chain, word by word
+unfoldable pub sums : Width → List Word → List Word → List Word
+sums k [] s = []
+sums k (x ∷ h) [] = []
+sums k (x ∷ h) (y ∷ s) = plus k x y ∷ sums k h s
+
+-- the chain after m blocks
 unfoldable pub blocks : Hash → ℕ → List Word → List Word → List Word
 blocks H zero W h = h
 blocks H (suc m) W h = blocks H m (drop 16 W) (H .compress h (take 16 W))

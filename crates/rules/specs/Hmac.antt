@@ -6,7 +6,7 @@ use lib.Dec.{leb}
 use lib.ListN.{length, take, drop, replicate}
 use Rattle.words.specs.Word.{Word}
 use Rattle.rules.specs.Supply.{Draw, Count, Sharing, split}
-use Rattle.rules.specs.Numbers.{choose}
+use Rattle.rules.specs.Numbers.{largest, choose}
 use Rattle.rules.specs.Shares.{each}
 use Rattle.rules.specs.Hash.{Bytes, Hash, blockBytes, chainWords, digestBytes, numberOf, wordsOf, allBytes}
 use Rattle.rules.specs.Hash.{padding, ending}
@@ -20,6 +20,17 @@ pub record Masked : Type 0 where
   pub code : ℕ
   pub compress : Count → Sharing → Sharing → Draw Sharing
   pub draws : Count → ℕ
+
+-- A chain record has room for the chain's words at the largest share count: 80 places for SHA-1, 128 for SHA-256. Those
+-- looked at on entry; a chain with 0 in the rest
+abbrev pub chainRoom : Hash → ℕ
+chainRoom H = chainWords H * largest
+
+unfoldable pub used : Hash → Count → Sharing → Sharing
+used H n chain = take (chainWords H * n) chain
+
+unfoldable pub chainOf : Hash → Count → Sharing → Sharing
+chainOf H n h = h ++ replicate (chainRoom H - chainWords H * n) 0
 
 -- words split one after the other
 unfoldable pub splits : Count → List Word → Draw Sharing

@@ -7,7 +7,9 @@ pub mod Convert
 pub mod Short
 pub mod Hash
 pub mod Standard
+pub mod Standard256
 pub mod Sha1
+pub mod Sha256
 pub mod Hmac
 pub mod Counts
 pub mod Calls

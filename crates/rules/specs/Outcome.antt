@@ -8,9 +8,9 @@ use Rattle.rules.specs.declared.Answer.{Answer}
 use Rattle.rules.specs.declared.State.{State}
 use Rattle.rules.specs.Supply.{Draw, Words}
 use Rattle.rules.specs.Numbers.{longestMessage}
-use Rattle.rules.specs.Sha1.{chainRoom}
 use Rattle.rules.specs.Hmac.{Masked}
 use Rattle.rules.specs.Counts.{stateDraws}
+use Rattle.rules.specs.Stream.{stateRoom}
 
 -- the share counts of the short conversion, and of all other calls
 abbrev pub Power : ℕ → Type 0
@@ -28,8 +28,8 @@ pub record Fit (M : Masked) (s : State) : Type 0 where
   pub drawn-so : s .drawn ≡ stateDraws M (s .n) (s .bytes)
 
 pub record Whole (s : State) : Type 0 where
-  pub inner-whole : length (s .inner .shares) ≡ chainRoom
-  pub outer-whole : length (s .outer .shares) ≡ chainRoom
+  pub inner-whole : length (s .inner .shares) ≡ stateRoom
+  pub outer-whole : length (s .outer .shares) ≡ stateRoom
   pub tail-whole : length (s .tail) ≡ 64
 
 -- what a call does not take it does not test

@@ -70,12 +70,12 @@ round k add n q w s ws at =
     let t = temp k add n q w s ws at in
     (moved k n (t .0) s, t .1)
 
--- m rounds from round t on, over the schedule W
-unfoldable pub rounds : Width → Adder → Count → Sharing → ℕ → ℕ → Sharing → Draw Sharing
-rounds k add n W zero t s ws at = (s, at)
-rounds k add n W (suc m) t s ws at =
-    let r = round k add n (t / 20) (word n t W) s ws at in
-    rounds k add n W m (t + 1) (r .0) ws (r .1)
+-- m rounds from round t on, each with its word of the schedule W
+unfoldable pub rounds : (ℕ → Sharing → Sharing → Draw Sharing) → Count → Sharing → ℕ → ℕ → Sharing → Draw Sharing
+rounds round n W zero t s ws at = (s, at)
+rounds round n W (suc m) t s ws at =
+    let r = round t (word n t W) s ws at in
+    rounds round n W m (t + 1) (r .0) ws (r .1)
 
 -- the word j before the end of W
 unfoldable pub ago : Count → ℕ → Sharing → Sharing
@@ -99,15 +99,5 @@ sums add n h s (suc m) i z ws at =
 -- one compression, of a block of 16 words into a chain h of 5
 unfoldable pub compress : Width → Adder → Count → Sharing → Sharing → Draw Sharing
 compress k add n h block ws at =
-    let s = rounds k add n (schedule k n 64 block) 80 0 h ws at in
+    let s = rounds (λ t. round k add n (t / 20)) n (schedule k n 64 block) 80 0 h ws at in
     sums add n h (s .0) 5 0 [] ws (s .1)
-
--- The chain record has 80 words, of which 5n are used: those looked at on entry, and a chain with the rest 0
-abbrev pub chainRoom : ℕ
-chainRoom = 80
-
-unfoldable pub used : Count → Sharing → Sharing
-used n chain = take (5 * n) chain
-
-unfoldable pub chainOf : Count → Sharing → Sharing
-chainOf n h = h ++ replicate (chainRoom - 5 * n) 0

@@ -1,10 +1,10 @@
 -- FIPS 180-4: SHA-1, unmasked, over words of k bits; SHA-1 itself has k = 32. Numbers are the standard's sections.
-use Prim.Native.Nat.{ℕ, zero, suc, _+_, _-_, _/_, _^_}
-use mathlib.Core.List.{List, [], _∷_, _++_}
+use Prim.Native.Nat.{ℕ, zero, suc, _-_, _/_, _^_}
+use mathlib.Core.List.{List, [], _∷_}
 use lib.Bits.{bitAnd, bitOr, bitXor}
-use lib.ListN.{length, getD}
+use lib.ListN.{getD}
 use Rattle.words.specs.Word.{Width, Word, plus, shift}
-use Rattle.rules.specs.Hash.{Hash}
+use Rattle.rules.specs.Hash.{Hash, ago, schedule, rounds, sums}
 
 -- 3.2: the rotation to the left by r places, and the complement
 unfoldable pub ROTL : Width → ℕ → Word → Word
@@ -30,19 +30,19 @@ f k (suc (suc zero)) x y z = Maj x y z
 f k (suc (suc (suc q))) x y z = Parity x y z
 
 -- 4.2.1: the constant of a quarter
+abbrev pub constants : List Word
+constants = 0x5a827999 ∷ 0x6ed9eba1 ∷ 0x8f1bbcdc ∷ 0xca62c1d6 ∷ []
+
 abbrev pub K : ℕ → Word
-K q = getD (0x5a827999 ∷ 0x6ed9eba1 ∷ 0x8f1bbcdc ∷ 0xca62c1d6 ∷ []) q 0
+K q = getD constants q 0
 
 -- 5.3.1: the starting chain
 abbrev pub H0 : List Word
 H0 = 0x67452301 ∷ 0xefcdab89 ∷ 0x98badcfe ∷ 0x10325476 ∷ 0xc3d2e1f0 ∷ []
 
--- 6.1.2, 1: the schedule: m words more after those of W
-unfoldable pub schedule : Width → ℕ → List Word → List Word
-schedule k zero W = W
-schedule k (suc m) W =
-    let ago : ℕ → Word = λ j. getD W (length W - j) 0 in
-    schedule k m (W ++ (ROTL k 1 (bitXor (bitXor (bitXor (ago 3) (ago 8)) (ago 14)) (ago 16)) ∷ []))
+-- 6.1.2, 1: the schedule: the word after those of W
+unfoldable pub following : Width → List Word → Word
+following k W = ROTL k 1 (bitXor (bitXor (bitXor (ago 3 W) (ago 8 W)) (ago 14 W)) (ago 16 W))
 
 -- 6.1.2, 3: a round of quarter q with the schedule's word w, on the words a, b, c, d, e
 unfoldable pub round : Width → ℕ → Word → List Word → List Word
@@ -54,20 +54,9 @@ round k q w s =
     let e = getD s 4 0 in
     plus k (plus k (plus k (plus k (ROTL k 5 a) (f k q b c d)) e) (K q)) w ∷ a ∷ ROTL k 30 b ∷ c ∷ d ∷ []
 
--- m rounds from round t on
-unfoldable pub rounds : Width → List Word → ℕ → ℕ → List Word → List Word
-rounds k W zero t s = s
-rounds k W (suc m) t s = rounds k W m (t + 1) (round k (t / 20) (getD W t 0) s)
-
--- 6.1.2, 4: the new chain, word by word
-unfoldable pub sums : Width → List Word → List Word → List Word
-sums k [] s = []
-sums k (x ∷ h) [] = []
-sums k (x ∷ h) (y ∷ s) = plus k x y ∷ sums k h s
-
 -- 6.1.2: the chain h after one block of 16 words
 unfoldable pub compress : Width → List Word → List Word → List Word
-compress k h block = sums k h (rounds k (schedule k 64 block) 80 0 h)
+compress k h block = sums k h (rounds (λ t. round k (t / 20)) (schedule (following k) 64 block) 80 0 h)
 
 -- SHA-1 is a hash of words of 32 bits, in four bytes each
 abbrev pub SHA1 : Width → Hash

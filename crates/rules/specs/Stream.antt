@@ -7,7 +7,7 @@ use mathlib.Core.List.{List, [], _∷_, _++_}
 use lib.Dec.{eqb, leb}
 use lib.ListN.{length, take, drop}
 use Rattle.rules.specs.declared.Answer.{Answer}
-use Rattle.rules.specs.declared.Chain.{Chain}
+use Rattle.rules.specs.declared.Sha256Chain.{Sha256Chain}
 use Rattle.rules.specs.declared.State.{State}
 use Rattle.rules.specs.declared.Streamed.{Streamed}
 use Rattle.rules.specs.declared.Fed.{Fed}
@@ -15,14 +15,18 @@ use Rattle.rules.specs.declared.Fed.the-variants.{Taken, Refused}
 use Rattle.rules.specs.Supply.{Draw, Count, Supply, Sharing}
 use Rattle.rules.specs.Numbers.{longestMessage, both, allowed, test, settled}
 use Rattle.rules.specs.Hash.{Bytes, Hash, blockBytes, chainWords, digestBytes, wordsOf, filled}
-use Rattle.rules.specs.Sha1.{publics, chainRoom}
+use Rattle.rules.specs.Sha1.{publics}
 use Rattle.rules.specs.Hmac.{Masked, keyStep, textStep, digestStep, tagOf}
 use Rattle.rules.specs.Counts.{startDraws, feedDraws, finishDraws, stateDraws}
 use Rattle.rules.specs.Calls.{call, query}
 
 -- ---- the state
+-- the places of each of its chains, for any hash
+abbrev pub stateRoom : ℕ
+stateRoom = 128
+
 -- what is read of it: the shares in use of a chain, and the bytes of the block that is not yet full
-abbrev pub inUse : Hash → State → Chain → Sharing
+abbrev pub inUse : Hash → State → Sha256Chain → Sharing
 inUse H s chain = take (chainWords H * s .n) (chain .shares)
 
 abbrev pub waiting : Hash → State → Bytes
@@ -48,15 +52,15 @@ state M n bytes inner outer tail =
       drawn = stateDraws M n bytes;
       finished = 0;
       hash = M .code;
-      inner = record { shares = filled chainRoom inner };
-      outer = record { shares = filled chainRoom outer };
+      inner = record { shares = filled stateRoom inner };
+      outer = record { shares = filled stateRoom outer };
       tail = filled 64 tail;
     }
 
 -- a state of zeros
 abbrev pub stateOfZeros : State
 stateOfZeros =
-    let none : Chain = record { shares = filled chainRoom [] } in
+    let none : Sha256Chain = record { shares = filled stateRoom [] } in
     record { n = 0; bytes = 0; drawn = 0; finished = 0; hash = 0; inner = none; outer = none; tail = filled 64 [] }
 
 -- ---- the rules
