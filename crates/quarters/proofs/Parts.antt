@@ -5,29 +5,14 @@ use mathlib.Core.List.{List}
 use mathlib.Core.Logic.{_⊎_, inl, inr}
 use native.Mathlib.Omega.{arith}
 use lib.Bits.{bitXor}
-use Rattle.rules.specs.Shares.{each, and}
+use Rattle.rules.specs.Shares.{each}
 use Rattle.rules.specs.Standard.{K}
-use Rattle.rules.specs.Sha1.{word, public, blended, chosen}
+use Rattle.rules.specs.Sha1.{word, public, chosen}
 use Rattle.rules.specs.Counts.{quarterAnds}
 use Rattle.rules.proofs.Loops.{Run}
 
 -- ---- the functions, each from its parts
 module _ (ws : List ℕ) (at : ℕ) where
-  pub blended-made : (u v d t f : List ℕ) (p : ℕ) → and u v ws at ≡ (t, p) → f ≡ each bitXor d t
-      → blended u v d ws at ≡ (f, p)
-  unfolding blended
-  blended-made u v d t f p e g = rw (e, g)
-
-  pub choose-made : (b c d v : List ℕ) (o : Run) → v ≡ each bitXor c d → blended b v d ws at ≡ o
-      → chosen 0 b c d ws at ≡ o
-  unfolding chosen
-  choose-made b c d v o e g = rw (← e) g
-
-  pub majority-made : (b c d u v : List ℕ) (o : Run) → u ≡ each bitXor b d → v ≡ each bitXor c d
-      → blended u v d ws at ≡ o → chosen 2 b c d ws at ≡ o
-  unfolding chosen
-  majority-made b c d u v o e h g = rw (← e, ← h) g
-
   -- the two quarters that draw nothing
   pub parity-chosen : (q : ℕ) (b c d f : List ℕ) → q < 4 → (q ≡ 0 → ⊥) → (q ≡ 2 → ⊥)
       → f ≡ each bitXor (each bitXor b c) d → chosen q b c d ws at ≡ (f, at)

@@ -10,7 +10,6 @@ ghost use Rattle.rules.specs.Sha1.{word, public, summed, temp, moved, round, ro
 ghost use Rattle.rules.specs.Counts.{andDraws, quarterAnds, roundsAnds};
 ghost use Rattle.masked_words.specs.Words.{Masked, turned};
 ghost use Rattle.schedule.specs.Window.{slid};
-use masked_words::add_in;
 use masked_words::put_turned;
 use masked_words::rotate;
 use masked_words::turned_word;
@@ -21,34 +20,12 @@ use rules::CHAIN_WORDS;
 use rules::LARGEST;
 use rules::ROUNDS;
 use schedule::slide;
+use sums::sum_in;
 
 // How many rounds there are to a quarter.
 const QUARTER: usize = 20;
 
 // ---- the sum of a round
-
-// t becomes t + f, + e, + k, + w.
-fn sum_in(
-    n: usize,
-    t: &mut [u32],
-    f: &[u32],
-    e: &[u32],
-    k: &[u32],
-    w: &[u32],
-    words: &[u32],
-    at: usize,
-) -> usize
-    requires { ⌜ Masked n (now t ∷ now f ∷ now e ∷ now k ∷ now w ∷ [])
-        × (at + 128 * andDraws n ≤ length (now words)) ⌝ }
-    ensures { λ r. ⌜ (summed (add 32) (now (t .entry)) (now (f .entry)) (now (e .entry)) (now (k .entry))
-        (now (w .entry)) (now (words .entry)) at ≡ (now (t .exit), r))
-        × (r ≡ at + 128 * andDraws n) ⌝ }
-{
-    let p = add_in(n, t, f, words, at);
-    let q = add_in(n, t, e, words, p);
-    let r = add_in(n, t, k, words, q);
-    add_in(n, t, w, words, r)
-}
 
 // t becomes t + f, + e of the state s, + K of quarter q, + w.
 fn sum_of(
@@ -166,7 +143,7 @@ fn round_of(n: usize, t: usize, u: &mut [u32], s: &mut [u32], words: &[u32], at:
 pub fn rounds_at(n: usize, u: &mut [u32], s: &mut [u32], words: &[u32], at: usize) -> usize
     requires { ⌜ (0 < n) × (n ≤ largest) × (length (now u) ≡ 16 * n) × (length (now s) ≡ 5 * n)
         × (at + roundsAnds 32 80 0 * andDraws n ≤ length (now words)) ⌝ }
-    ensures { λ r. ⌜ (rounds 32 (add 32) n (schedule 32 n 64 (now (u .entry))) 80 0 (now (s .entry))
+    ensures { λ r. ⌜ (rounds (λ t. round 32 (add 32) n (t / 20)) n (schedule 32 n 64 (now (u .entry))) 80 0 (now (s .entry))
         (now (words .entry)) at
         ≡ (now (s .exit), r))
         × (r ≡ at + roundsAnds 32 80 0 * andDraws n) ⌝ }

@@ -1,16 +1,18 @@
 -- the rounds that are left, from here on, give what all 80 give from the start, and the window holds their words
 use borrow.Author.Needs.{needs}
-use Prim.Native.Nat.{_+_, _-_, _*_, _%_, _≤_}
+use Prim.Native.Nat.{_+_, _-_, _*_, _/_, _%_, _≤_}
 use mathlib.Core.Path.{_≡_, refl}
+use native.Mathlib.Omega.{arith}
 use lib.ListN.{length}
 use Rattle.rules.specs.Shares.{add}
-use Rattle.rules.specs.Sha1.{rounds, schedule}
+use Rattle.rules.specs.Sha1.{round, rounds, schedule}
 use Rattle.rules.specs.Counts.{andDraws, roundsAnds}
 use Rattle.masked_words.specs.Words.{turned}
 use Rattle.masked_words.proofs.Turned.{turned-none}
+use Rattle.masked_words.proofs.Rings.{ring-next, ring-end}
 use Rattle.schedule.specs.Window.{Window}
 use Rattle.schedule.proofs.Parts.{window-begins, window-word, window-next}
-use Rattle.rounds.proofs.Parts.{rounds-next, rounds-end, round-room, round-after, rounds-after}
+use Rattle.rounds.proofs.Parts.{round-room, round-after, rounds-after}
 use Rattle.rounds.proofs.rounds_at.Statement.{statement}
 use Rattle.rounds.proofs.rounds_at.Tie as tie
 
@@ -19,8 +21,8 @@ Inv-loop n u₀ s₀ words at p₀ t₀ u s p t =
     (t ≤ 80) × (length u ≡ 16 * n) × (length s ≡ 5 * n)
     × (p + roundsAnds 32 (80 - t) t * andDraws n ≡ at + roundsAnds 32 80 0 * andDraws n)
     × Window n (schedule 32 n 64 u₀) t (turned n (t % 16) u)
-    × (rounds 32 (add 32) n (schedule 32 n 64 u₀) (80 - t) t (turned n ((80 - t) % 5) s) words p
-    ≡ rounds 32 (add 32) n (schedule 32 n 64 u₀) 80 0 s₀ words at)
+    × (rounds (λ t. round 32 (add 32) n (t / 20)) n (schedule 32 n 64 u₀) (80 - t) t (turned n ((80 - t) % 5) s) words p
+    ≡ rounds (λ t. round 32 (add 32) n (t / 20)) n (schedule 32 n 64 u₀) 80 0 s₀ words at)
 
 abbrev μ-loop : tie.MeasureT-loop
 μ-loop n u₀ s₀ words at p₀ t₀ u s p t = 80 - t
@@ -38,11 +40,11 @@ loop-again c = (
   search needs,
   search round-after,
   search window-next,
-  search (rounds-next, window-word),
+  search (ring-next 5 (omega arith), window-word),
 )
 
 returns : tie.Need-returns Inv-loop μ-loop
-returns c = (search rounds-end, search rounds-after)
+returns c = (search (ring-end 5 (omega arith)), search rounds-after)
 
 pub rounds-at-spec : {M : Type 1} → statement M
 rounds-at-spec =

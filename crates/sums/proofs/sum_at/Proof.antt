@@ -1,8 +1,8 @@
 -- the sum goes into the word's own place; those before it and behind it stay
 use borrow.Author.Needs.{needs}
-use Rattle.sha1.proofs.Parts.{stored-sum, stored-front, stored-rest}
-use Rattle.sha1.proofs.sum_at.Statement.{statement}
-use Rattle.sha1.proofs.sum_at.Tie as tie
+use Rattle.sums.proofs.Parts.{stored-sum, stored-front, stored-rest}
+use Rattle.sums.proofs.sum_at.Statement.{statement}
+use Rattle.sums.proofs.sum_at.Tie as tie
 
 returns : tie.Need-returns
 returns c = (search stored-sum, search stored-front, search stored-rest, search needs)

@@ -1,8 +1,8 @@
 -- Maj: the AND of b ⊕ d and c ⊕ d, blended with d
 use borrow.Author.Needs.{needs}
-use Rattle.quarters.proofs.Parts.{majority-made}
-use Rattle.quarters.proofs.majority.Statement.{statement}
-use Rattle.quarters.proofs.majority.Tie as tie
+use Rattle.choices.proofs.Parts.{majority-made}
+use Rattle.choices.proofs.majority.Statement.{statement}
+use Rattle.choices.proofs.majority.Tie as tie
 
 returns : tie.Need-returns
 returns c = (search majority-made, search needs)

@@ -1,9 +1,9 @@
 -- one AND, then XOR by shares: d ⊕ (u ∧ v)
 use borrow.Author.Needs.{needs}
 use Rattle.rules.proofs.Loops.{and-room, and-place}
-use Rattle.quarters.proofs.Parts.{blended-made}
-use Rattle.quarters.proofs.blend.Statement.{statement}
-use Rattle.quarters.proofs.blend.Tie as tie
+use Rattle.choices.proofs.Parts.{blended-made}
+use Rattle.choices.proofs.blend.Statement.{statement}
+use Rattle.choices.proofs.blend.Tie as tie
 
 and-at-requires : tie.Need-and-at-requires
 and-at-requires c κs = (search needs, search needs, search and-room)

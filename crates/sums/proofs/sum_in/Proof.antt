@@ -1,8 +1,8 @@
 -- four sums, each drawing from where the one before ended: the order of the rule
 use borrow.Author.Needs.{needs}
-use Rattle.rounds.proofs.Parts.{summed-made}
-use Rattle.rounds.proofs.sum_in.Statement.{statement}
-use Rattle.rounds.proofs.sum_in.Tie as tie
+use Rattle.sums.proofs.Parts.{summed-made}
+use Rattle.sums.proofs.sum_in.Statement.{statement}
+use Rattle.sums.proofs.sum_in.Tie as tie
 
 returns : tie.Need-returns
 returns c = (search summed-made, search needs)

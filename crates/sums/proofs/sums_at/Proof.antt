@@ -3,27 +3,28 @@ use borrow.Author.Needs.{needs}
 use Prim.Native.Nat.{_+_, _-_, _*_, _≤_}
 use mathlib.Core.Path.{_≡_, refl}
 use mathlib.Core.List.{[]}
+use native.Mathlib.Nat.{sub-zero}
 use lib.ListN.{length, drop}
 use Rattle.rules.specs.Shares.{add}
 use Rattle.rules.specs.Sha1.{sums}
 use Rattle.rules.specs.Counts.{andDraws}
 use Rattle.masked_words.specs.Words.{firsts}
 use Rattle.masked_words.proofs.Parts.{word-room, firsts-none}
-use Rattle.sha1.proofs.Parts.{rest-next, sums-next, sums-end, sum-room, sum-after, sums-after}
-use Rattle.sha1.proofs.sums_at.Statement.{statement}
-use Rattle.sha1.proofs.sums_at.Tie as tie
+use Rattle.sums.proofs.Parts.{rest-next, sums-next, sums-end, sum-room, sum-after, sums-after}
+use Rattle.sums.proofs.sums_at.Statement.{statement}
+use Rattle.sums.proofs.sums_at.Tie as tie
 
 abbrev Inv-loop : tie.InvT-loop
-Inv-loop n s z₀ words at p₀ i₀ z p i =
-    (i ≤ 5) × (length z ≡ 5 * n) × (p + (5 - i) * (32 * andDraws n) ≡ at + 160 * andDraws n)
+Inv-loop n count s z₀ words at p₀ i₀ z p i =
+    (i ≤ count) × (length z ≡ count * n) × (p + (count - i) * (32 * andDraws n) ≡ at + count * (32 * andDraws n))
     × (drop (i * n) z ≡ drop (i * n) z₀)
-    × (sums (add 32) n z₀ s (5 - i) i (firsts n i z) words p ≡ sums (add 32) n z₀ s 5 0 [] words at)
+    × (sums (add 32) n z₀ s (count - i) i (firsts n i z) words p ≡ sums (add 32) n z₀ s count 0 [] words at)
 
 abbrev μ-loop : tie.MeasureT-loop
-μ-loop n s z₀ words at p₀ i₀ z p i = 5 - i
+μ-loop n count s z₀ words at p₀ i₀ z p i = count - i
 
 loop-holds : tie.Need-loop-holds Inv-loop μ-loop
-loop-holds c = (search needs, search needs, search needs, refl, rw firsts-none)
+loop-holds c = (search needs, search needs, rw sub-zero, refl, rw (sub-zero, firsts-none))
 
 sum-at-requires : tie.Need-sum-at-requires Inv-loop μ-loop
 sum-at-requires c κs = (search needs, search word-room, search word-room, search (needs, sum-room))

@@ -1,8 +1,8 @@
 -- Ch: the AND of b and c ⊕ d, blended with d
 use borrow.Author.Needs.{needs}
-use Rattle.quarters.proofs.Parts.{choose-made}
-use Rattle.quarters.proofs.choose.Statement.{statement}
-use Rattle.quarters.proofs.choose.Tie as tie
+use Rattle.choices.proofs.Parts.{choose-made}
+use Rattle.choices.proofs.choose.Statement.{statement}
+use Rattle.choices.proofs.choose.Tie as tie
 
 returns : tie.Need-returns
 returns c = (search choose-made, search needs)
