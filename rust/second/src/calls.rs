@@ -1,12 +1,16 @@
 //! The public calls for n shares: the tests of section 3 in their order, then the rule. Every
 //! refusal reports 0 words drawn and leaves the output as it came.
 
+use crate::hash::{chain_record, Hash};
 use crate::numbers::{
-    allowed_for_short_conversion, first_refusal, Answer, Chain, Compressed, Opened, KEY_LIMIT,
-    MESSAGE_LIMIT,
+    allowed_for_short_conversion, first_refusal, Answer, Chain, Compressed, Opened, Sha256Chain,
+    Sha256Compressed, KEY_LIMIT, MESSAGE_LIMIT,
 };
+use crate::sha1::SHA_1;
+use crate::sha256::SHA_256;
+use crate::shared::shared_words;
 use crate::supply::Supply;
-use crate::{rules, sha1};
+use crate::{hmac, rules};
 
 /// A call that takes a supply: tests 1 to 4, then the rule on the supply from place 0. The rule
 /// gives nothing when the supply runs out, which is number 5; the output is written at the end.
@@ -108,44 +112,105 @@ pub fn b2a_short(n: usize, x: &[u32], a: &mut [u32], words: &[u32]) -> Answer {
     call(n, &tests, a, words, |supply| rules::b2a_short(x, supply))
 }
 
-/// Splits a key of up to 1,024 bytes into 16n words (section 2). One over 64 bytes is hashed too,
-/// "all within the splitting call, so number 5 counts both" (request (iii)). Tests 1, 3, 4, 5.
-pub fn split_key(n: usize, key: &[u8], shares: &mut [u32], words: &[u32]) -> Answer {
+// The calls of either hash, each written once.
+
+/// A key's splitting for this hash. Tests 1, 3, 4, 5.
+fn key_splitting(hash: &Hash, n: usize, key: &[u8], shares: &mut [u32], words: &[u32]) -> Answer {
     let tests = [
         (3, shares.len() != n.saturating_mul(16)),
         (4, key.len() > KEY_LIMIT),
     ];
     call(n, &tests, shares, words, |supply| {
-        sha1::split_key(n, key, supply)
+        hmac::split_key(hash, n, key, supply)
     })
+}
+
+/// A compression of this hash in the record given, which a refusal leaves as it came. Tests 1, 2, 5.
+fn compression<const WORDS: usize>(
+    hash: &Hash,
+    n: usize,
+    record: &mut [u32; WORDS],
+    block: &[u32],
+    words: &[u32],
+) -> Answer {
+    let tests = [(2, block.len() != n.saturating_mul(16))];
+    let given = *record;
+    call(n, &tests, record, words, |supply| {
+        let old = hash.chain_in(n, &given);
+        let new = (hash.compress)(&old, &shared_words(n, block), supply)?;
+        Some(chain_record::<WORDS>(&new).to_vec())
+    })
+}
+
+/// A whole tag by this hash. Tests 1, 2, 3, 4, 5.
+fn whole_tag(
+    hash: &Hash,
+    n: usize,
+    key: &[u32],
+    message: &[u8],
+    tag: &mut [u8],
+    words: &[u32],
+) -> Answer {
+    let tests = [
+        (2, key.len() != n.saturating_mul(16)),
+        (3, tag.len() != hash.digest_bytes()),
+        (4, message.len() as u64 > MESSAGE_LIMIT),
+    ];
+    call(n, &tests, tag, words, |supply| {
+        hmac::hmac(hash, &shared_words(n, key), message, supply)
+    })
+}
+
+/// Splits a key of up to 1,024 bytes into 16n words (section 2) for HMAC-SHA-1. One over 64 bytes is
+/// hashed too, "all within the splitting call, so number 5 counts both" (request (iii)). Tests 1, 3,
+/// 4, 5.
+pub fn split_key(n: usize, key: &[u8], shares: &mut [u32], words: &[u32]) -> Answer {
+    key_splitting(&SHA_1, n, key, shares, words)
+}
+
+/// Splits a key as [`split_key`] does, for HMAC-SHA-256: one over 64 bytes is hashed by SHA-256, and
+/// its "digest gives 8n words" (request (vii)). Tests 1, 3, 4, 5.
+pub fn sha256_split_key(n: usize, key: &[u8], shares: &mut [u32], words: &[u32]) -> Answer {
+    key_splitting(&SHA_256, n, key, shares, words)
 }
 
 /// Compresses a block of 16n words into the chain (section 6): of its words the first 5n are used,
 /// "the rest are not looked at on entry and are 0 in an accepted answer". Tests 1, 2, 5.
 pub fn sha1_compress(n: usize, chain: Chain, block: &[u32], words: &[u32]) -> Compressed {
-    let tests = [(2, block.len() != n.saturating_mul(16))];
-    let mut after = chain;
-    let answer = call(n, &tests, &mut after.shares, words, |supply| {
-        let old = sha1::chain_words(n, &chain);
-        let new = sha1::compress(&old, &sha1::shared_words(n, block), supply)?;
-        Some(sha1::chain_record(&new).shares.to_vec())
-    });
+    let mut chain = chain;
+    let Answer { number, drawn } = compression(&SHA_1, n, &mut chain.shares, block, words);
     Compressed {
-        number: answer.number,
-        drawn: answer.drawn,
-        chain: after,
+        number,
+        drawn,
+        chain,
+    }
+}
+
+/// Compresses a block of 16n words into the chain by SHA-256 (request (vii)): of its words the first
+/// 8n are used, and the rest go as in [`sha1_compress`]. Tests 1, 2, 5.
+pub fn sha256_compress(
+    n: usize,
+    chain: Sha256Chain,
+    block: &[u32],
+    words: &[u32],
+) -> Sha256Compressed {
+    let mut chain = chain;
+    let Answer { number, drawn } = compression(&SHA_256, n, &mut chain.shares, block, words);
+    Sha256Compressed {
+        number,
+        drawn,
+        chain,
     }
 }
 
 /// The HMAC-SHA-1 tag, 20 bytes, of a message of up to 65,536 bytes (request (vi)) under a key lent
 /// as 16n words (section 6). Tests 1, 2, 3, 4, 5.
 pub fn hmac_sha1(n: usize, key: &[u32], message: &[u8], tag: &mut [u8], words: &[u32]) -> Answer {
-    let tests = [
-        (2, key.len() != n.saturating_mul(16)),
-        (3, tag.len() != 20),
-        (4, message.len() as u64 > MESSAGE_LIMIT),
-    ];
-    call(n, &tests, tag, words, |supply| {
-        sha1::hmac(&sha1::shared_words(n, key), message, supply)
-    })
+    whole_tag(&SHA_1, n, key, message, tag, words)
+}
+
+/// The HMAC-SHA-256 tag, 32 bytes (request (vii)), of a message of up to 65,536 bytes under a key
+/// lent as 16n words, which [`sha256_split_key`] makes. Tests 1, 2, 3, 4, 5.
+pub fn hmac_sha256(n: usize, key: &[u32], message: &[u8], tag: &mut [u8], words: &[u32]) -> Answer {
+    whole_tag(&SHA_256, n, key, message, tag, words)
 }

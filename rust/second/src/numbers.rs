@@ -1,11 +1,16 @@
 //! The numbers handed back (section 3, and number 6 of requests (i) and (xii)), and the records
 //! that carry them.
 
+use crate::hash::Hash;
+
 /// Request (vi): "Allow every share count from 1 to 16".
 const SHARE_LIMIT: usize = 16;
 
 /// Request (vi): "The chain record grows to 80 words", five in as many shares as are allowed.
 const CHAIN_WORDS: usize = 5 * SHARE_LIMIT;
+
+/// Request (vii): "Its chain record has 128 words", eight in as many shares as are allowed.
+const SHA256_CHAIN_WORDS: usize = 8 * SHARE_LIMIT;
 
 /// Request (vi): "messages of 65,536 bytes, streamed ones included". The limit "counts all pieces"
 /// (request (i)).
@@ -13,9 +18,6 @@ pub(crate) const MESSAGE_LIMIT: u64 = 65_536;
 
 /// Request (iii): "Splitting accepts up to 1,024 bytes."
 pub(crate) const KEY_LIMIT: usize = 1024;
-
-/// The code of SHA-1, the only "hash it belongs to" (request (xii)) that a state can name.
-pub(crate) const SHA_1: u32 = 0;
 
 /// What a call that takes a supply hands back, and what a query hands back.
 #[derive(Debug, Clone, Copy, PartialEq, Eq)]
@@ -35,21 +37,30 @@ pub struct Opened {
     pub word: u32,
 }
 
-/// Section 6: "The masked chain value is one record", of whose words "5n are used".
+/// The chain of SHA-1. Section 6: "The masked chain value is one record", of whose words "5n are
+/// used".
 #[derive(Debug, Clone, Copy, PartialEq, Eq)]
 pub struct Chain {
     /// Share i of chain word w, both from 0, stands at place w·n + i.
     pub shares: [u32; CHAIN_WORDS],
 }
 
-impl Chain {
+/// The chain of SHA-256. Request (vii): "Its chain record has 128 words, 8n used". A state has its
+/// chains in such records for either hash.
+#[derive(Debug, Clone, Copy, PartialEq, Eq)]
+pub struct Sha256Chain {
+    /// Share i of chain word w, both from 0, stands at place w·n + i.
+    pub shares: [u32; SHA256_CHAIN_WORDS],
+}
+
+impl Sha256Chain {
     /// A record with no word used yet.
-    pub(crate) const ZEROS: Chain = Chain {
-        shares: [0; CHAIN_WORDS],
+    const ZEROS: Sha256Chain = Sha256Chain {
+        shares: [0; SHA256_CHAIN_WORDS],
     };
 }
 
-/// What a compression hands back.
+/// What a compression of SHA-1 hands back.
 #[derive(Debug, Clone, Copy, PartialEq, Eq)]
 pub struct Compressed {
     /// The number of section 3.
@@ -60,8 +71,19 @@ pub struct Compressed {
     pub chain: Chain,
 }
 
-/// The state of a tag in the making, "handed in and out" (request (i)). A caller may hand in any
-/// state at all, also one made up; an unfit one is refused with number 6.
+/// What a compression of SHA-256 hands back.
+#[derive(Debug, Clone, Copy, PartialEq, Eq)]
+pub struct Sha256Compressed {
+    /// The number of section 3.
+    pub number: u32,
+    /// How many words were drawn; 0 on every refusal.
+    pub drawn: u64,
+    /// The new chain, 0 in the places not used; on every refusal the chain exactly as given.
+    pub chain: Sha256Chain,
+}
+
+/// The state of a tag in the making, "handed in and out" (request (i)), for either hash. A caller may
+/// hand in any state at all, also one made up; an unfit one is refused with number 6.
 #[derive(Debug, Clone, Copy, PartialEq, Eq)]
 pub struct State {
     /// The share count.
@@ -73,12 +95,13 @@ pub struct State {
     pub drawn: u64,
     /// 0, and 1 after an accepted finish; anything but 0 counts as finished.
     pub finished: u32,
-    /// Request (xii): "the hash it belongs to", which is 0 for SHA-1.
+    /// Request (xii): "the hash it belongs to", which is 0 for SHA-1 and 1 for SHA-256.
     pub hash: u32,
-    /// The chain after the inner key block and the full blocks of the message.
-    pub inner: Chain,
+    /// The chain after the inner key block and the full blocks of the message. Of the words in it
+    /// and in the outer one SHA-1 uses 5n and SHA-256 uses 8n.
+    pub inner: Sha256Chain,
     /// The chain after the outer key block.
-    pub outer: Chain,
+    pub outer: Sha256Chain,
     /// The bytes of the block that is not yet full: the first bytes % 64 places.
     pub tail: [u8; 64],
 }
@@ -91,8 +114,8 @@ impl State {
         drawn: 0,
         finished: 0,
         hash: 0,
-        inner: Chain::ZEROS,
-        outer: Chain::ZEROS,
+        inner: Sha256Chain::ZEROS,
+        outer: Sha256Chain::ZEROS,
         tail: [0; 64],
     };
 }
@@ -118,27 +141,22 @@ pub(crate) fn allowed_for_short_conversion(n: usize) -> bool {
     [1, 2, 4, 8].contains(&n)
 }
 
-/// Section 6: "One compression draws 5,220·n(n−1) words."
-pub(crate) fn compression(n: u64) -> u64 {
-    5220 * n * (n - 1)
-}
-
 /// Request (xii): "the rules' draws for the bytes fed so far", which are those of start's two key
 /// blocks and of the blocks that the bytes filled.
-fn draws_so_far(n: u64, bytes: u64) -> u64 {
-    (2 + bytes / 64) * compression(n)
+fn draws_so_far(hash: &Hash, n: u64, bytes: u64) -> u64 {
+    (2 + bytes / 64) * hash.compression_words(n)
 }
 
-/// Whether a feed or finish takes the state. Request (i) refuses one "after finish, or on a state
+/// Whether a feed or finish of this hash takes the state. Request (i) refuses one "after finish, or on a state
 /// whose share count isn't allowed or whose byte count is past the limit"; request (xii) one "with
 /// the wrong hash" and "a state whose count differs from the rules' draws for its byte count, share
 /// count and hash". The draws are worked out only where the two counts are within their limits.
-fn is_fit(state: &State) -> bool {
+fn is_fit(hash: &Hash, state: &State) -> bool {
     state.finished == 0
         && allowed(state.n)
         && state.bytes <= MESSAGE_LIMIT
-        && state.hash == SHA_1
-        && state.drawn == draws_so_far(state.n as u64, state.bytes)
+        && state.hash == hash.code
+        && state.drawn == draws_so_far(hash, state.n as u64, state.bytes)
 }
 
 /// The first number that applies, or 0.
@@ -168,10 +186,10 @@ pub(crate) fn first_refusal(n: usize, tests: &[(u32, bool)]) -> u32 {
     first_that_applies(tests)
 }
 
-/// The same for a call that takes a state, where number 6, for an unfit state, stands in place of
-/// 1: "tested before all others" (request (i)).
-pub(crate) fn first_state_refusal(state: &State, tests: &[(u32, bool)]) -> u32 {
-    if !is_fit(state) {
+/// The same for a call of this hash that takes a state, where number 6, for an unfit state, stands in
+/// place of 1: "tested before all others" (request (i)).
+pub(crate) fn first_state_refusal(hash: &Hash, state: &State, tests: &[(u32, bool)]) -> u32 {
+    if !is_fit(hash, state) {
         return 6;
     }
     first_that_applies(tests)

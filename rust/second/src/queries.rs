@@ -1,20 +1,31 @@
 //! The queries: how many words a call will draw, by the formulas of sections 2, 5 and 6 and the
-//! words of requests (i), (iii), (iv), (v) and (vi). Each gives number 0 and the count, or the call's
-//! refusal 1, 4 or 6 and the count 0.
+//! words of requests (i), (iii), (iv), (v), (vi) and (vii). Each gives number 0 and the count, or the
+//! call's refusal 1, 4 or 6 and the count 0. The formulas that go over compressions are written once
+//! for both hashes.
 
+use crate::hash::Hash;
 use crate::numbers::{
-    allowed_for_short_conversion, compression, first_refusal, first_state_refusal,
-    would_pass_the_limit, Answer, State, KEY_LIMIT, MESSAGE_LIMIT,
+    allowed_for_short_conversion, first_refusal, first_state_refusal, would_pass_the_limit, Answer,
+    State, KEY_LIMIT, MESSAGE_LIMIT,
 };
+use crate::sha1::SHA_1;
+use crate::sha256::SHA_256;
 
 /// The query of a call that takes a share count.
 fn query(n: usize, tests: &[(u32, bool)], formula: impl FnOnce(u64) -> u64) -> Answer {
     count(first_refusal(n, tests), n, formula)
 }
 
-/// The query of a call that takes a state.
-fn state_query(state: &State, tests: &[(u32, bool)], formula: impl FnOnce(u64) -> u64) -> Answer {
-    count(first_state_refusal(state, tests), state.n, formula)
+/// The query of a call of this hash that takes a state, from how many compressions it does.
+fn state_query(
+    hash: &Hash,
+    state: &State,
+    tests: &[(u32, bool)],
+    compressions: impl FnOnce() -> u64,
+) -> Answer {
+    count(first_state_refusal(hash, state, tests), state.n, |n| {
+        compressions() * hash.compression_words(n)
+    })
 }
 
 /// The formula for n, worked out only when nothing is refused.
@@ -97,44 +108,102 @@ pub fn b2a_short_words(n: usize) -> Answer {
     query(n, &tests, short_conversion)
 }
 
-/// What `split_key` draws: 16(n−1) for a key of up to 64 bytes (section 2), and for a longer one
+/// A key block of this hash: 16(n−1) for a key of up to 64 bytes (section 2), and for a longer one
 /// "ceil(K/4)·(n−1) words and then floor((K+8)/64) + 1 compressions" (request (iii)).
-pub fn split_key_words(n: usize, key_len: usize) -> Answer {
+fn key_splitting(hash: &Hash, n: usize, key_len: usize) -> Answer {
     let length = key_len as u64;
     query(n, &[(4, key_len > KEY_LIMIT)], |n| match length {
         0..=64 => 16 * (n - 1),
-        _ => length.div_ceil(4) * (n - 1) + ((length + 8) / 64 + 1) * compression(n),
+        _ => {
+            let compressions = (length + 8) / 64 + 1;
+            length.div_ceil(4) * (n - 1) + compressions * hash.compression_words(n)
+        }
     })
+}
+
+/// A whole tag of this hash (section 6): floor((L+8)/64) + 4 compressions.
+fn whole_tag(hash: &Hash, n: usize, message_len: usize) -> Answer {
+    let length = message_len as u64;
+    query(n, &[(4, length > MESSAGE_LIMIT)], |n| {
+        ((length + 8) / 64 + 4) * hash.compression_words(n)
+    })
+}
+
+/// A start of this hash: the two key blocks.
+fn start(hash: &Hash, n: usize) -> Answer {
+    query(n, &[], |n| 2 * hash.compression_words(n))
+}
+
+/// A feed of this hash: the blocks which a piece of this length completes.
+fn feed(hash: &Hash, state: &State, piece_len: usize) -> Answer {
+    let tests = [(4, would_pass_the_limit(state, piece_len))];
+    state_query(hash, state, &tests, || {
+        (state.bytes % 64 + piece_len as u64) / 64
+    })
+}
+
+/// A finish of this hash: the padded rest, one block or two, and the digest block.
+fn finish(hash: &Hash, state: &State) -> Answer {
+    state_query(hash, state, &[], || (state.bytes % 64 + 8) / 64 + 2)
+}
+
+/// What `split_key` draws (section 2 and request (iii)): 16(n−1) for a key of up to 64 bytes, and for
+/// a longer one ceil(K/4)·(n−1) and that of floor((K+8)/64) + 1 compressions.
+pub fn split_key_words(n: usize, key_len: usize) -> Answer {
+    key_splitting(&SHA_1, n, key_len)
 }
 
 /// What `sha1_compress` draws (section 6): 5,220·n(n−1).
 pub fn sha1_compress_words(n: usize) -> Answer {
-    query(n, &[], compression)
+    query(n, &[], |n| SHA_1.compression_words(n))
 }
 
 /// What `hmac_sha1` draws (section 6): that of floor((L+8)/64) + 4 compressions.
 pub fn hmac_sha1_words(n: usize, message_len: usize) -> Answer {
-    query(n, &[(4, message_len as u64 > MESSAGE_LIMIT)], |n| {
-        ((message_len as u64 + 8) / 64 + 4) * compression(n)
-    })
+    whole_tag(&SHA_1, n, message_len)
 }
 
 /// What `hmac_sha1_start` draws: that of the two key blocks.
 pub fn hmac_sha1_start_words(n: usize) -> Answer {
-    query(n, &[], |n| 2 * compression(n))
+    start(&SHA_1, n)
 }
 
 /// What `hmac_sha1_feed` draws: that of the blocks which a piece of this length completes.
 pub fn hmac_sha1_feed_words(state: State, piece_len: usize) -> Answer {
-    let tests = [(4, would_pass_the_limit(&state, piece_len))];
-    state_query(&state, &tests, |n| {
-        (state.bytes % 64 + piece_len as u64) / 64 * compression(n)
-    })
+    feed(&SHA_1, &state, piece_len)
 }
 
 /// What `hmac_sha1_finish` draws: that of the padded rest, one block or two, and the digest block.
 pub fn hmac_sha1_finish_words(state: State) -> Answer {
-    state_query(&state, &[], |n| {
-        ((state.bytes % 64 + 8) / 64 + 2) * compression(n)
-    })
+    finish(&SHA_1, &state)
+}
+
+/// What `sha256_split_key` draws: as `split_key`, with the compressions of SHA-256.
+pub fn sha256_split_key_words(n: usize, key_len: usize) -> Answer {
+    key_splitting(&SHA_256, n, key_len)
+}
+
+/// What `sha256_compress` draws (request (vii)): 9,664·n(n−1).
+pub fn sha256_compress_words(n: usize) -> Answer {
+    query(n, &[], |n| SHA_256.compression_words(n))
+}
+
+/// What `hmac_sha256` draws: that of floor((L+8)/64) + 4 compressions.
+pub fn hmac_sha256_words(n: usize, message_len: usize) -> Answer {
+    whole_tag(&SHA_256, n, message_len)
+}
+
+/// What `hmac_sha256_start` draws: that of the two key blocks.
+pub fn hmac_sha256_start_words(n: usize) -> Answer {
+    start(&SHA_256, n)
+}
+
+/// What `hmac_sha256_feed` draws: that of the blocks which a piece of this length completes.
+pub fn hmac_sha256_feed_words(state: State, piece_len: usize) -> Answer {
+    feed(&SHA_256, &state, piece_len)
+}
+
+/// What `hmac_sha256_finish` draws: that of the padded rest, one block or two, and the digest block.
+pub fn hmac_sha256_finish_words(state: State) -> Answer {
+    finish(&SHA_256, &state)
 }

@@ -1,4 +1,4 @@
-//! Tests of what the state carries (request (xii)): the count of words after every call of a run,
+//! Tests of what a state of HMAC-SHA-1 carries (request (xii)): the count of words after every call,
 //! beside what the calls drew and beside the rules' draws, and number 6 for any other count and any
 //! other hash, before all others.
 
@@ -271,7 +271,7 @@ fn any_other_hash_is_six_with_either_count() {
     for n in COUNTS {
         for bytes in SOME_BYTES {
             let fit = made_up(n, bytes, 0, 1);
-            // The count by the draws of SHA-256, whose code is none before request (vii).
+            // The count by the draws of SHA-256, with which code 1 is a fit state of that hash.
             let drawn = fit.drawn / 5220 * 9664;
             for hash in [1, 2, 256, 1 << 16, u32::MAX] {
                 assert_six(State { hash, ..fit }, &[9; 9]);

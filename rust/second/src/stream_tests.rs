@@ -1,11 +1,13 @@
-//! Tests of streaming (request (i), with the share counts and the limit of request (vi)): every cut,
-//! the order of the draws and their counts, what is not read and what is cleared, the limits, and
-//! every refusal with what it leaves. What the state carries (request (xii)) has tests of its own,
-//! which use the helpers here.
+//! Tests of streaming by HMAC-SHA-1 (request (i), with the share counts and the limit of request
+//! (vi) and the state of request (vii)): every cut, the order of the draws and their counts, what is
+//! not read and what is cleared, the limits, and every refusal with what it leaves. What the state
+//! carries (request (xii)) and streaming by HMAC-SHA-256 have tests of their own, which use the
+//! helpers here.
 
+use crate::sha256_tests;
 use crate::tests::{
     compress_done, done, hex, hmac_done, opened_bytes, plain_hmac, public, random_bytes,
-    random_chain, random_words, refused, split_key_done, start_chain, with_pad, words_of,
+    random_words, refused, split_key_done, start_chain, with_pad, words_of,
 };
 use crate::tests::{
     CHAIN_WORDS, COUNTS, DIGEST_PADDING, FEW_COUNTS, LONGEST, RFC_2202, WRONG_COUNTS,
@@ -16,20 +18,34 @@ use crate::*;
 pub(crate) const LIMIT: u64 = LONGEST as u64;
 
 /// The state that a refused start hands back.
-const ZEROS: State = State {
+pub(crate) const ZEROS: State = State {
     n: 0,
     bytes: 0,
     drawn: 0,
     finished: 0,
     hash: 0,
-    inner: Chain {
-        shares: [0; CHAIN_WORDS],
+    inner: Sha256Chain {
+        shares: [0; sha256_tests::CHAIN_WORDS],
     },
-    outer: Chain {
-        shares: [0; CHAIN_WORDS],
+    outer: Sha256Chain {
+        shares: [0; sha256_tests::CHAIN_WORDS],
     },
     tail: [0; 64],
 };
+
+/// A chain of SHA-1 in the record of a state.
+fn widened(chain: Chain) -> Sha256Chain {
+    let mut wide = ZEROS.inner;
+    wide.shares[..CHAIN_WORDS].copy_from_slice(&chain.shares);
+    wide
+}
+
+/// The chain of SHA-1 in the record of a state, with what stands behind its 5n words.
+fn narrowed(chain: Sha256Chain) -> Chain {
+    Chain {
+        shares: chain.shares[..CHAIN_WORDS].try_into().unwrap(),
+    }
+}
 
 /// The words of one compression by its ANDs: 32 for each of 325 additions, and 40 of its own. It
 /// wraps, so that any share count at all can be given.
@@ -54,8 +70,8 @@ pub(crate) fn made_up(n: usize, bytes: u64, finished: u32, seed: u64) -> State {
         drawn: fit_count(n, bytes),
         finished,
         hash: 0,
-        inner: random_chain(seed),
-        outer: random_chain(seed + 1),
+        inner: sha256_tests::random_chain(seed),
+        outer: sha256_tests::random_chain(seed + 1),
         tail: random_bytes(seed + 2, 64).try_into().unwrap(),
     }
 }
@@ -98,8 +114,8 @@ pub(crate) fn made_up_ways(n: usize, bytes: u64, seed: u64) -> Vec<State> {
 /// The state with other words and bytes in the places that are not used.
 fn with_junk(state: State, seed: u64) -> State {
     let mut junk = State {
-        inner: random_chain(seed),
-        outer: random_chain(seed + 1),
+        inner: sha256_tests::random_chain(seed),
+        outer: sha256_tests::random_chain(seed + 1),
         tail: random_bytes(seed + 2, 64).try_into().unwrap(),
         ..state
     };
@@ -120,7 +136,7 @@ fn without_junk(state: State) -> State {
 }
 
 /// The answer without its state.
-fn answer_of(streamed: Streamed) -> Answer {
+pub(crate) fn answer_of(streamed: Streamed) -> Answer {
     Answer {
         number: streamed.number,
         drawn: streamed.drawn,
@@ -201,8 +217,8 @@ fn start_does_the_inner_key_block_then_the_outer_one() {
         let expected = State {
             n,
             drawn: words.len() as u64,
-            inner,
-            outer,
+            inner: widened(inner),
+            outer: widened(outer),
             ..ZEROS
         };
         assert_eq!(start_done(n, &key, &mut &words[..]), expected);
@@ -227,7 +243,8 @@ fn feed_compresses_each_block_once_it_is_full() {
             for block in all.chunks(64) {
                 if block.len() == 64 {
                     let block = public(n, &words_of(block));
-                    expected.inner = compress_done(n, expected.inner, &block, &mut rest);
+                    let inner = narrowed(expected.inner);
+                    expected.inner = widened(compress_done(n, inner, &block, &mut rest));
                 } else {
                     expected.tail[..block.len()].copy_from_slice(block);
                 }
@@ -247,13 +264,13 @@ fn tag_by_compressions(state: State, words: &mut &[u32]) -> Vec<u8> {
     padded.push(0x80);
     padded.resize(if filled < 56 { 56 } else { 120 }, 0);
     padded.extend(((64 + state.bytes) * 8).to_be_bytes());
-    let mut inner = state.inner;
+    let mut inner = narrowed(state.inner);
     for block in padded.chunks(64) {
         inner = compress_done(n, inner, &public(n, &words_of(block)), words);
     }
     let mut block = inner.shares[..5 * n].to_vec();
     block.extend(public(n, &DIGEST_PADDING));
-    let outer = compress_done(n, state.outer, &block, words);
+    let outer = compress_done(n, narrowed(state.outer), &block, words);
     opened_bytes(n, &outer.shares[..5 * n])
 }
 

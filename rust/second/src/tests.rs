@@ -1,7 +1,7 @@
 //! Tests: the reference values and limits of section 7, every refusal of section 3, the order of
 //! draws, the openings against plain arithmetic and a plain SHA-1, the long keys of request (iii),
 //! the fuller refresh of request (v), and the share counts and longer messages of request (vi).
-//! Streaming and the short conversion have tests of their own, which use the helpers here.
+//! Streaming, the short conversion and SHA-256 have tests of their own, which use the helpers here.
 
 use crate::supply::Supply;
 use crate::*;
@@ -636,7 +636,7 @@ fn rotate(x: &[u32], by: u32) -> Vec<u32> {
     x.iter().map(|share| share.rotate_left(by)).collect()
 }
 
-fn xor_by_shares(x: &[u32], y: &[u32]) -> Vec<u32> {
+pub(crate) fn xor_by_shares(x: &[u32], y: &[u32]) -> Vec<u32> {
     x.iter().zip(y).map(|(xi, yi)| xi ^ yi).collect()
 }
 
@@ -815,7 +815,7 @@ fn hmac_agrees_with_the_plain_one() {
 // Request (iii): keys over 64 bytes.
 
 /// Lengths of long keys, each with the words it is split into and the blocks it is hashed in.
-const LONG_KEYS: [(usize, u64, u64); 8] = [
+pub(crate) const LONG_KEYS: [(usize, u64, u64); 8] = [
     (65, 17, 2),
     (68, 17, 2),
     (69, 18, 2),
@@ -886,7 +886,7 @@ fn a_key_of_66_bytes_in_two_shares_step_by_step() {
 }
 
 /// The words of a key, the last one filled with zero bytes, split one after another.
-fn split_words_of_key(n: usize, key: &[u8], words: &mut &[u32]) -> Vec<u32> {
+pub(crate) fn split_words_of_key(n: usize, key: &[u8], words: &mut &[u32]) -> Vec<u32> {
     let mut split_words = Vec::new();
     for part in key.chunks(4) {
         let mut four = [0; 4];
@@ -1152,7 +1152,7 @@ fn expand_of_three_and_of_sixteen_shares() {
 }
 
 /// Messages whose tags were worked out by another program: 251 byte values in turn.
-fn counting_bytes(count: usize) -> Vec<u8> {
+pub(crate) fn counting_bytes(count: usize) -> Vec<u8> {
     (0..count).map(|place| (place % 251) as u8).collect()
 }
 
@@ -1216,7 +1216,7 @@ fn limits_of_messages_and_keys() {
 }
 
 /// A call made on a supply: its answer, and its output afterwards.
-type Call = Box<dyn Fn(&[u32]) -> (Answer, Vec<u32>)>;
+pub(crate) type Call = Box<dyn Fn(&[u32]) -> (Answer, Vec<u32>)>;
 
 /// Each call that takes a supply, with count n: its query, and the call on inputs and on an output
 /// of the lengths given. The short conversion, with counts of its own, has its own tests.
