@@ -1,13 +1,13 @@
 -- Words in shares, from the parts that the code works out one after the other.
 use Prim.Native.Nat.{ℕ, zero, suc, _+_, _-_, _*_, _≤_, _<_}
 use mathlib.Core.Path.{_≡_, refl, sym, ap, _∙_}
-use mathlib.Core.List.{List, []}
-use native.Mathlib.Nat.{suc-mul, mul-le-mul-right}
+use mathlib.Core.List.{List, [], _++_}
+use native.Mathlib.Nat.{suc-mul, add-mul, mul-le-mul-right}
 use native.Mathlib.Numerals.{add-one}
 use native.Mathlib.Omega.{arith}
 use lib.ListN.{length, set, take, drop, replicate, length-drop, replicate-append-replicate}
-use lib.Seq.{length-take-le, take-all, take-suc-set}
-use Rattle.rules.specs.Sha1.{word, public}
+use lib.Seq.{length-take-le, take-all, take-suc-set, take-append-le, drop-append-le}
+use Rattle.rules.specs.Sha1.{word, public, ago}
 use Rattle.masked_words.specs.Words.{firsts}
 
 -- ---- word: word w, as a part of a slice
@@ -21,6 +21,20 @@ word-part n w s h =
 -- a word below the m-th ends within m words
 pub word-room : (n t m : ℕ) (s : List ℕ) → t < m → length s ≡ m * n → t * n + n ≤ length s
 word-room n t m s h e = omega (arith, mul-le-mul-right n h, suc-mul t n)
+
+pub put-room : (n t m : ℕ) (s x : List ℕ) → t < m → length s ≡ m * n → length x ≡ n → t * n + length x ≤ length s
+put-room n t m s x h e f = rw f (word-room n t m s h e)
+
+-- a word within the front of two lists; a word counted from the end
+pub word-front : (n i : ℕ) (a b : List ℕ) → i * n + n ≤ length a → word n i (a ++ b) ≡ word n i a
+unfolding word
+word-front n i a b h =
+    rw (drop-append-le (i * n) a b (omega arith))
+    (take-append-le n (drop (i * n) a) b (omega (arith, length-drop (i * n) a)))
+
+pub ago-is : (n i j : ℕ) (W : List ℕ) → length W ≡ (i + j) * n → ago n j W ≡ word n i W
+unfolding ago word
+ago-is n i j W size = let place : length W - j * n ≡ i * n = omega (arith, add-mul i j n) in rw place
 
 -- ---- several words, filled from the front: none so far
 pub firsts-none : (n : ℕ) (z : List ℕ) → firsts n 0 z ≡ []

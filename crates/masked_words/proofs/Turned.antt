@@ -132,14 +132,11 @@ module _ (n m r i w : ℕ) (h : r < m) (l : i < m) (e : w ≡ (r + i) % m) where
   turns : (s : List ℕ) → length s ≡ m * n → turned n i (turned n r s) ≡ turned n w s
   turns s size = rw e (turned-turned n m r i s size h (omega arith))
 
-  below : w < m
-  below = rw e (mod-lt (r + i) (omega arith))
+  pub turned-below : w < m
+  turned-below = rw e (mod-lt (r + i) (omega arith))
 
   pub turned-room : (s : List ℕ) → length s ≡ m * n → w * n + n ≤ length s
-  turned-room s size = omega (arith, mul-le-mul-right n below)
-
-  pub turned-put-room : (s x : List ℕ) → length s ≡ m * n → length x ≡ n → w * n + length x ≤ length s
-  turned-put-room s x size f = omega (arith, turned-room s size)
+  turned-room s size = omega (arith, mul-le-mul-right n turned-below)
 
   module _ (s x : List ℕ) (size : length s ≡ m * n) where
     same-size : length (turned n r s) ≡ m * n
@@ -147,7 +144,7 @@ module _ (n m r i w : ℕ) (h : r < m) (l : i < m) (e : w ≡ (r + i) % m) where
 
     pub turned-word : x ≡ word n w s → x ≡ word n i (turned n r s)
     turned-word f =
-        f ∙ sym (turned-front n m w below s size) ∙ ap (take n) (sym (turns s size))
+        f ∙ sym (turned-front n m w turned-below s size) ∙ ap (take n) (sym (turns s size))
         ∙ turned-front n m i l (turned n r s) same-size
 
     pub turned-sets : (s′ : List ℕ) → length x ≡ n → s′ ≡ sets s (w * n) x
@@ -156,6 +153,6 @@ module _ (n m r i w : ℕ) (h : r < m) (l : i < m) (e : w ≡ (r + i) % m) where
         let size′ : length s′ ≡ m * n = ap length g ∙ length-sets s (w * n) x ∙ size in
         turned-same n m i l (turned n r s′) (sets (turned n r s) (i * n) x) (length-turned n r s′ ∙ size′)
         (length-sets (turned n r s) (i * n) x ∙ same-size)
-        (turns s′ size′ ∙ ap (turned n w) g ∙ turned-stored n m w below s x size f
+        (turns s′ size′ ∙ ap (turned n w) g ∙ turned-stored n m w turned-below s x size f
         ∙ ap (λ (y : List ℕ). x ++ drop n y) (sym (turns s size))
         ∙ sym (turned-stored n m i l (turned n r s) x same-size f))

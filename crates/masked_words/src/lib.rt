@@ -23,6 +23,14 @@ pub fn word(s: &[u32], n: usize, w: usize) -> &[u32]
     &s[a..e]
 }
 
+// x becomes word w of m.
+pub fn put_word(n: usize, m: usize, w: usize, x: &[u32], s: &mut [u32])
+    requires { ⌜ (w < m) × (length (now x) ≡ n) × (length (now s) ≡ m * n) ⌝ }
+    ensures { λ _. ⌜ now (s .exit) ≡ sets (now (s .entry)) (w * n) (now (x .entry)) ⌝ }
+{
+    shares::put(x, s, w * n);
+}
+
 // ---- a ring of m words, from word r on
 
 // The place of word i.
@@ -50,7 +58,7 @@ pub fn put_turned(n: usize, m: usize, r: usize, i: usize, x: &[u32], s: &mut [u3
     requires { ⌜ (r < m) × (i < m) × (length (now x) ≡ n) × (length (now s) ≡ m * n) ⌝ }
     ensures { λ _. ⌜ turned n r (now (s .exit)) ≡ sets (turned n r (now (s .entry))) (i * n) (now (x .entry)) ⌝ }
 {
-    shares::put(x, s, turned_place(m, r, i) * n);
+    put_word(n, m, turned_place(m, r, i), x, s);
 }
 
 // ---- one word

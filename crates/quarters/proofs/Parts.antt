@@ -7,7 +7,7 @@ use native.Mathlib.Omega.{arith}
 use lib.Bits.{bitXor}
 use Rattle.rules.specs.Shares.{each}
 use Rattle.rules.specs.Standard.{K}
-use Rattle.rules.specs.Sha1.{word, public, chosen}
+use Rattle.rules.specs.Sha1.{public, chosen}
 use Rattle.rules.specs.Counts.{quarterAnds}
 use Rattle.rules.proofs.Loops.{Run}
 
@@ -25,10 +25,6 @@ module _ (ws : List ℕ) (at : ℕ) where
   -- the quarter's number, told by a test
   pub chosen-by : (q m : ℕ) (b c d : List ℕ) (o : Run) → q ≡ m → chosen m b c d ws at ≡ o → chosen q b c d ws at ≡ o
   chosen-by q m b c d o e g = rw e g
-
-  pub chosen-of : (n q : ℕ) (s b c d : List ℕ) (o : Run) → b ≡ word n 1 s → c ≡ word n 2 s → d ≡ word n 3 s
-      → chosen q b c d ws at ≡ o → chosen q (word n 1 s) (word n 2 s) (word n 3 s) ws at ≡ o
-  chosen-of n q s b c d o e f g h = rw (← e, ← f, ← g) h
 
 -- ---- constant_of
 pub constant-made : (n q v : ℕ) (z : List ℕ) → v ≡ K q → z ≡ public n v → z ≡ public n (K q)

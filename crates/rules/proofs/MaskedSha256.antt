@@ -15,7 +15,7 @@ use Rattle.rules.specs.Standard.{f}
 use Rattle.rules.specs.Standard256.{ROTR, SHR, Σ, σ, K, constants}
 use Rattle.rules.specs.Standard256.{following as followingOf, round as roundOf, compress as compressOf}
 use Rattle.rules.specs.Sha1.{rotl, rotated}
-use Rattle.rules.specs.Sha256.{turns, falls, following, schedule, temps, moved, round, compress}
+use Rattle.rules.specs.Sha256.{turns, falls, following, schedule, temps, moved, renewed, round, compress}
 use Rattle.rules.proofs.Rule.{give, bind, counted}
 use Rattle.rules.proofs.Goods.{Goods, none, more, one, join}
 use Rattle.rules.proofs.Compressions.{small-at, Keeps, allOf, part, summed-rule, rounds-rule, ago-of}
@@ -88,7 +88,7 @@ module _ {k n d : ℕ} {adder : Adder} {Fits : ℕ → Type 0} {Good : List ℕ 
 
   round-rule : (t : ℕ) (w s S : List ℕ) (W : ℕ) → Good w W → Goods Good 8 s S
       → Rule (2 * andDraws n + 7 * d) (λ z. Goods Good 8 z (roundOf k t W S)) (round k adder n t w s)
-  unfolding round temps moved roundOf f quarterAnds
+  unfolding round temps moved renewed roundOf f quarterAnds
   round-rule t w s S W gw g =
       let a = part keeps 0 (omega arith) g in
       let b = part keeps 1 (omega arith) g in

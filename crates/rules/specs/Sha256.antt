@@ -59,13 +59,17 @@ unfoldable pub moved : Count → Sharing → Sharing → Sharing → Sharing
 moved n t u s =
     t ++ (word n 0 s ++ (word n 1 s ++ (word n 2 s ++ (u ++ (word n 4 s ++ (word n 5 s ++ word n 6 s))))))
 
--- then u = d + T1, then t = T1 + T2
+-- u = d + T1, then t = T1 + T2
+unfoldable pub renewed : Adder → Count → Sharing → Sharing → Sharing → Draw Sharing
+renewed add n T1 T2 s ws at =
+    let u = add (word n 3 s) T1 ws at in
+    let t = add T1 T2 ws (u .1) in
+    (moved n (t .0) (u .0) s, t .1)
+
 unfoldable pub round : Width → Adder → Count → ℕ → Sharing → Sharing → Draw Sharing
 round k add n t w s ws at =
     let T = temps k add n t w s ws at in
-    let u = add (word n 3 s) (T .0 .0) ws (T .1) in
-    let v = add (T .0 .0) (T .0 .1) ws (u .1) in
-    (moved n (v .0) (u .0) s, v .1)
+    renewed add n (T .0 .0) (T .0 .1) s ws (T .1)
 
 -- one compression, of a block of 16 words into a chain h of 8; the chain sums follow the rounds
 unfoldable pub compress : Width → Adder → Count → Sharing → Sharing → Draw Sharing

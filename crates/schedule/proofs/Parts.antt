@@ -8,20 +8,17 @@ use native.Mathlib.Omega.{arith}
 use borrow.Author.Tests.{le-leb, lt-leb}
 use lib.Bits.{bitXor}
 use lib.ListN.{length, getD, set, take, drop, length-append, length-drop, length-map}
-use lib.Seq.{sets, length-sets, length-take-le, take-all, drop-at, drop-drop, take-append-le, drop-append-le}
+use lib.Seq.{sets, length-sets, length-take-le, take-all, drop-at, drop-drop}
 use Rattle.rules.specs.Shares.{each}
 use Rattle.rules.specs.Sha1.{word, rotl, rotated, ago, following, schedule}
 use Rattle.rules.proofs.Loops.{mapped-next, mapped-end}
 use Rattle.rules.proofs.Openings.{length-each, each-at}
 use Rattle.masked_words.specs.Words.{turned}
+use Rattle.masked_words.proofs.Parts.{word-front, ago-is}
 use Rattle.masked_words.proofs.Turned.{turned-turned, turned-none, turned-one, turned-first, length-turned}
 use Rattle.schedule.specs.Window.{Window, slid}
 
--- ---- ago: a word of several, counted from the end
-ago-is : (n i j : ℕ) (W : List ℕ) → length W ≡ (i + j) * n → ago n j W ≡ word n i W
-unfolding ago word
-ago-is n i j W size = let place : length W - j * n ≡ i * n = omega (arith, add-mul i j n) in rw place
-
+-- ---- ago: a word of the window
 pub ago-word : (n r j : ℕ) (u x : List ℕ) → length u ≡ 16 * n → j ≤ 16 → x ≡ word n (16 - j) (turned n r u)
     → x ≡ ago n j (turned n r u)
 ago-word n r j u x size h e =
@@ -122,13 +119,7 @@ module _ (k n t : ℕ) (u : List ℕ) where
       (sym (turned-turned n 16 (t % 16) 1 u size (omega arith) (omega arith)) ∙ turned-one n (turned n (t % 16) u))
 
 -- ---- what the window holds, round by round
--- a word within the front of two lists, and the one that is behind the front
-word-front : (n i : ℕ) (a b : List ℕ) → i * n + n ≤ length a → word n i (a ++ b) ≡ word n i a
-unfolding word
-word-front n i a b h =
-    rw (drop-append-le (i * n) a b (omega arith))
-    (take-append-le n (drop (i * n) a) b (omega (arith, length-drop (i * n) a)))
-
+-- the word that is behind the front of two lists
 word-behind : (n i : ℕ) (a b : List ℕ) → length a ≡ i * n → length b ≡ n → word n i (a ++ b) ≡ b
 unfolding word
 word-behind n i a b e f = rw (drop-at a b (i * n) e) (take-all n b (omega arith))

@@ -9,16 +9,21 @@ use Rattle.rules.specs.Shares.{add}
 use Rattle.rules.specs.Convert.{Adder}
 use Rattle.rules.specs.Sha1.{word, summed, sums}
 use Rattle.rules.proofs.Loops.{Run, times-suc}
+use Rattle.sums.specs.Three.{three}
 use Rattle.masked_words.specs.Words.{firsts}
 use Rattle.masked_words.proofs.Parts.{firsts-all}
 
--- ---- sum_in: in the rule's order
-module _ (ws : List ℕ) (at : ℕ) where
-  pub summed-made : (add : Adder) (t f e c w x y z : List ℕ) (p q s : ℕ) (o : Run)
-      → add t f ws at ≡ (x, p) → add x e ws p ≡ (y, q) → add y c ws q ≡ (z, s) → add z w ws s ≡ o
+-- ---- three_in, sum_in: in the rule's order
+module _ (add : Adder) (ws : List ℕ) (at p : ℕ) (o : Run) where
+  pub three-made : (t a b c x y : List ℕ) (q : ℕ) → add t a ws at ≡ (x, p) → add x b ws p ≡ (y, q) → add y c ws q ≡ o
+      → three add t a b c ws at ≡ o
+  unfolding three
+  three-made t a b c x y q e f g = rw (e, f, g)
+
+  pub summed-made : (t f e c w z : List ℕ) → three add t f e c ws at ≡ (z, p) → add z w ws p ≡ o
       → summed add t f e c w ws at ≡ o
-  unfolding summed
-  summed-made add t f e c w x y z p q s o g h i j = rw (g, h, i, j)
+  unfolding summed three
+  summed-made t f e c w z g h = rw (g, h)
 
 -- ---- sum_at: one word of several made anew, x, and the others as they were
 module _ (n i : ℕ) (z x : List ℕ) (room : i * n + n ≤ length z)

@@ -8,8 +8,29 @@ ghost use Rattle.rules.specs.Shares.{add};
 ghost use Rattle.rules.specs.Sha1.{word, summed, sums};
 ghost use Rattle.rules.specs.Counts.{andDraws};
 ghost use Rattle.masked_words.specs.Words.{Sized, Masked, firsts};
+ghost use Rattle.sums.specs.Three.{three};
 use masked_words::add_in;
 use masked_words::word;
+
+// t becomes t + a, + b, + c.
+pub fn three_in(
+    n: usize,
+    t: &mut [u32],
+    a: &[u32],
+    b: &[u32],
+    c: &[u32],
+    words: &[u32],
+    at: usize,
+) -> usize
+    requires { ⌜ Masked n (now t ∷ now a ∷ now b ∷ now c ∷ []) × (at + 96 * andDraws n ≤ length (now words)) ⌝ }
+    ensures { λ r. ⌜ (three (add 32) (now (t .entry)) (now (a .entry)) (now (b .entry)) (now (c .entry))
+        (now (words .entry)) at ≡ (now (t .exit), r))
+        × (r ≡ at + 96 * andDraws n) ⌝ }
+{
+    let p = add_in(n, t, a, words, at);
+    let q = add_in(n, t, b, words, p);
+    add_in(n, t, c, words, q)
+}
 
 // t becomes t + f, + e, + k, + w.
 pub fn sum_in(
@@ -28,10 +49,8 @@ pub fn sum_in(
         (now (w .entry)) (now (words .entry)) at ≡ (now (t .exit), r))
         × (r ≡ at + 128 * andDraws n) ⌝ }
 {
-    let p = add_in(n, t, f, words, at);
-    let q = add_in(n, t, e, words, p);
-    let r = add_in(n, t, k, words, q);
-    add_in(n, t, w, words, r)
+    let p = three_in(n, t, f, e, k, words, at);
+    add_in(n, t, w, words, p)
 }
 
 // Word i of the chain z, the old value, becomes its sum with word i of the state s.

@@ -1,6 +1,6 @@
 -- the words b, c and d of the state, and the function of the quarter on them
 use borrow.Author.Needs.{needs}
-use Rattle.quarters.proofs.Parts.{chosen-of}
+use Rattle.choices.proofs.Parts.{chosen-of}
 use Rattle.quarters.proofs.quarter_of.Statement.{statement}
 use Rattle.quarters.proofs.quarter_of.Tie as tie
 
