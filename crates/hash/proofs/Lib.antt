@@ -1,2 +1,3 @@
 pub mod Publics
+pub mod Chains
 pub mod Blocks

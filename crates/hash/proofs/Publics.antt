@@ -1,5 +1,4 @@
--- Constants XORed into share 1, as the code's loop marks them; public words in shares; the chain that a hash starts
--- from.
+-- Constants XORed into share 1, as the code's loop marks them; public words in shares.
 use Prim.Native.Nat.{ℕ, zero, suc, _+_, _-_, _*_, _≤_, _<_}
 use mathlib.Core.Path.{_≡_, refl, sym, ap, ap₂, _∙_}
 use mathlib.Core.List.{List, [], _∷_, _++_}
@@ -12,11 +11,8 @@ use lib.ListN.{take-append-drop}
 use lib.ListN.{drop-of-length-le, List·getD-append}
 use lib.Seq.{drop-cons, take-at, length-take-le, take-append-add, drop-append-add, take-nil, drop-nil, getD-append-add}
 use lib.Seq.{set-append-left}
-use Rattle.words.proofs.Stores.{zeros-after}
-use Rattle.rules.specs.Numbers.{largest}
 use Rattle.rules.specs.Shares.{each}
-use Rattle.rules.specs.Standard.{H0}
-use Rattle.rules.specs.Sha1.{public, publics, chainRoom, used, chainOf}
+use Rattle.rules.specs.Sha1.{public, publics}
 use Rattle.rules.specs.Hmac.{marked}
 use Rattle.rules.proofs.Openings.{each-append}
 use Rattle.rules.proofs.Keys.{each-zeros}
@@ -32,7 +28,7 @@ place-in m n k w l some few h e = omega (arith, place-room m n w h, mul-le-mul-l
 pub public-room : (n l m : ℕ) → l ≡ 16 → m ≡ 16 * n → m ≡ l * n
 public-room n l m e f = rw e f
 
-length-publics : (n : ℕ) (vs : List ℕ) → 0 < n → length (publics n vs) ≡ length vs * n
+pub length-publics : (n : ℕ) (vs : List ℕ) → 0 < n → length (publics n vs) ≡ length vs * n
 unfolding publics public
 length-publics n [] h = sym (zero-mul n)
 length-publics n (v ∷ vs) h =
@@ -122,13 +118,3 @@ module _ (n : ℕ) (some : 0 < n) where
 
   pub publics-part : (m i : ℕ) (vs : List ℕ) → take (m * n) (drop (i * n) (publics n vs)) ≡ publics n (take m (drop i vs))
   publics-part m i vs = ap (take (m * n)) (publics-drop i vs) ∙ publics-take m (drop i vs)
-
--- ---- the chain that starts a hash
-pub start-made : (n : ℕ) (h : List ℕ) → n ≤ largest → h ≡ publics n H0
-    → h ++ drop {A = ℕ} (5 * n - 0) (replicate (5 * largest) 0) ≡ chainOf n (publics n H0)
-unfolding chainOf
-start-made n h l e = rw (e, zeros-after (5 * largest) (5 * n) (omega arith))
-
-pub start-used : (n : ℕ) → 0 < n → used n (chainOf n (publics n H0)) ≡ publics n H0
-unfolding used chainOf
-start-used n h = take-at (publics n H0) (replicate (chainRoom - 5 * n) 0) (5 * n) (length-publics n H0 h)

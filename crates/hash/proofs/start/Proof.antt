@@ -1,6 +1,6 @@
--- the five words of the standard's starting chain, as public values
+-- the starting chain in front of zeros
 use borrow.Author.Needs.{needs}
-use Rattle.hash.proofs.Publics.{start-made}
+use Rattle.hash.proofs.Chains.{start-made}
 use Rattle.hash.proofs.start.Statement.{statement}
 use Rattle.hash.proofs.start.Tie as tie
 
@@ -8,11 +8,9 @@ pub start-spec : {M : Type 1} → statement M
 start-spec =
     tie.close
     (tie.spec
-    (λ c. search needs)
-    (λ c. search needs)
+    (λ c κs. search needs)
     (λ c. search needs)
     (λ c. search needs)
     (λ c. search needs)
     (λ c κs. search needs)
-    (λ c. search start-made)
-    )
+    (λ c. search start-made))
