@@ -2,7 +2,7 @@
 use Prim.Native.Nat.{ℕ, zero, suc, _+_, _-_, _*_, _≤_, _<_}
 use mathlib.Core.Path.{_≡_, refl, sym, ap, _∙_}
 use mathlib.Core.List.{List, [], _++_, map, append-nil}
-use native.Mathlib.Nat.{sub-zero, mul-le-mul, mul-le-mul-left}
+use native.Mathlib.Nat.{sub-zero, mul-le-mul-left, mul-le-mul-right}
 use native.Mathlib.Omega.{arith}
 use mir.Syntax.{w64}
 use mir.Val.{Fits}
@@ -41,7 +41,7 @@ module _ (code : ℕ) (is : code ≡ 0) where
 
 -- a code that is not 0 is one more than another
 module _ (code : ℕ) (not : code ≡ 0 → ⊥) where
-  more : code ≡ suc (code - 1)
+  pub more : code ≡ suc (code - 1)
   more = go code not
     where
       go : (c : ℕ) → (c ≡ 0 → ⊥) → c ≡ suc (c - 1)
@@ -84,8 +84,8 @@ size-of code m e = rw e
 
 -- ---- chain_end
 module _ (n m : ℕ) (few : m ≤ 8) (low : n ≤ largest) where
-  pub end-most : m * n ≤ 128
-  end-most = mul-le-mul few low
+  pub end-most : m * n ≤ 8 * n
+  end-most = mul-le-mul-right n few
 
   pub end-fits : Fits w64 (m * n)
   end-fits = record { fits = omega (arith, end-most) }
@@ -158,10 +158,10 @@ module _ (code n end : ℕ) (is : end ≡ chainWords (standard code) * n) where
           let made : hash code .compress n f block ws at ≡ (z, p) = rw front at e in
           rw (back, made, full, is)
 
-  pub cleared-made : (all C : List ℕ) → length (map (λ (v : ℕ). v) all) ≡ 128 → end ≤ 128
+  pub cleared-made : (all C : List ℕ) → length (map (λ (v : ℕ). v) all) ≡ 128 → end ≤ 8 * n → n ≤ largest
       → C ≡ take end all ++ replicate (length all - end) 0
       → _≡_ {A = Sha256Chain} (record { shares = C }) (record { shares = filled stateRoom (used (standard code) n all) })
-  cleared-made all C whole room e =
+  cleared-made all C whole most low e =
       let size = array-length all whole in
       rw (e, behind-them all, in-use all (omega arith), size)
 
@@ -177,8 +177,9 @@ rest-made end all rest h e =
     rw (none, append-nil rest, e, length-take-le m behind (omega arith))
 
 -- an array that is handed over has all its words
-pub array-end : (end : ℕ) (all : List ℕ) → length (map (λ (v : ℕ). v) all) ≡ 128 → end ≤ 128 → end ≤ length all
-array-end end all whole h = omega (arith, array-length all whole)
+pub array-end : (n end : ℕ) (all : List ℕ) → length (map (λ (v : ℕ). v) all) ≡ 128 → end ≤ 8 * n → n ≤ largest
+    → end ≤ length all
+array-end n end all whole h low = omega (arith, array-length all whole)
 
 -- ---- compress_record: a copy of the block
 pub record-copied : (code n : ℕ) (all block u ws : List ℕ) (at : ℕ) (o : Run) → u ≡ block

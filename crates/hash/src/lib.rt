@@ -69,7 +69,7 @@ pub fn chain_words(code: u32) -> usize
 // The places of a chain that are used.
 pub fn chain_end(code: u32, n: usize) -> usize
     requires { ⌜ n ≤ largest ⌝ }
-    ensures { λ r. ⌜ (r ≡ chainWords (standard code) * n) × (r ≤ 128) ⌝ }
+    ensures { λ r. ⌜ (r ≡ chainWords (standard code) * n) × (r ≤ 8 * n) ⌝ }
 {
     chain_words(code) * n
 }

@@ -9,7 +9,7 @@ ghost use Rattle.rules.specs.Numbers.{largest, longestKey};
 ghost use Rattle.rules.specs.Hash.{numberOf, filled};
 ghost use Rattle.rules.specs.Sha1.{word};
 ghost use Rattle.rules.specs.Hmac.{keyWords};
-ghost use Rattle.hash.specs.Hash.{hash};
+ghost use Rattle.rules.specs.Standard.{SHA1};
 ghost use Rattle.key_words.specs.Held.{lastShares, held};
 use masked_words::clear;
 use padding::joined;
@@ -62,7 +62,7 @@ pub fn last_shares(n: usize, key: &[u8], z: &mut [u32], words: &[u32], at: usize
     requires { ⌜ (0 < n) × (n ≤ largest) × (length (now z) ≤ longestKey)
         × (at + length (now z) * (n - 1) ≤ length (now words)) ⌝ }
     ensures { λ r. ⌜ (now (z .exit)
-        ≡ lastShares n (keyWords (hash .standard) (length (now (z .entry))) (now (key .entry))) (now (words .entry)) at)
+        ≡ lastShares n (keyWords (SHA1 32) (length (now (z .entry))) (now (key .entry))) (now (words .entry)) at)
         × (r ≡ at + length (now (z .entry)) * (n - 1)) ⌝ }
 {
     let mut p = at;

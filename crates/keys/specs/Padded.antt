@@ -4,9 +4,9 @@ use lib.ListN.{length, replicate}
 use Rattle.rules.specs.Supply.{Count, Sharing}
 use Rattle.rules.specs.Hash.{ending, filled}
 use Rattle.rules.specs.Hmac.{marked}
-use Rattle.hash.specs.Hash.{hash}
+use Rattle.rules.specs.Standard.{SHA1}
 
 abbrev pub padded : Count → ℕ → Sharing → Sharing
 padded n bytes s =
-    let pad = ending (hash .standard) 0 (replicate bytes 0) in
+    let pad = ending (SHA1 32) 0 (replicate bytes 0) in
     marked n pad (filled (length pad * n) s)

@@ -10,13 +10,19 @@ use lib.Seq.{getD-append-add, getD-take, getD-drop, length-take-le, take-at, dro
 use Rattle.words.proofs.Stores.{filled-next, filled-end, lent-zeros}
 use Rattle.rules.specs.Hash.{Hash, bytesOf, numberOf, wordsOf, zeros, padding, ended, ending}
 use Rattle.rules.specs.Standard.{SHA1}
+use Rattle.rules.specs.Counts.{standardOf}
 use Rattle.rules.proofs.Bytes.{pow-bytes, byte-of, words-alike, number-zeros}
 use Rattle.rules.proofs.Hashes.{ended-length, ending-length, ending-front}
-use Rattle.rules.proofs.Tags.{sha1-proper}
+use Rattle.rules.proofs.Tags.{hash-proper}
 use Rattle.padding.specs.Whole.{blocksIn}
 
 abbrev H : Hash
 H = SHA1 32
+
+-- every hash of the library has this padding
+pub any-ending : (code before : ℕ) (text : List ℕ) → ending H before text ≡ ending (standardOf 32 code) before text
+unfolding ending ended padding zeros
+any-ending code before text = refl
 
 pub count-made : (count j : ℕ) → count / 2 ^ (8 * j) % 256 ≡ count / 256 ^ j % 256
 count-made count j = rw (pow-bytes j)
@@ -104,10 +110,10 @@ word-made m bs i h ea eb ec ed er = er ∙ rw (ea, eb, ec, ed) (sym (word-of m b
 -- ---- the words of a text
 module _ (before : ℕ) (text : List ℕ) (aligned : before % 64 ≡ 0) where
   length-ended : length (ended H before text) ≡ 64 * blocksIn (length text)
-  length-ended = ended-length H (sha1-proper 32) (before / 64) before (omega arith) text
+  length-ended = ended-length H (hash-proper 32 0) (before / 64) before (omega arith) text
 
   length-ending : length (ending H before text) ≡ 16 * blocksIn (length text)
-  length-ending = ending-length H (sha1-proper 32) (before / 64) before (omega arith) text
+  length-ending = ending-length H (hash-proper 32 0) (before / 64) before (omega arith) text
 
   pub text-word : (i : ℕ) {a b c d r : ℕ} → i < blocksIn (length text) * 16
       → a ≡ getD (ended H before text) (4 * i) 0 → b ≡ getD (ended H before text) (4 * i + 1) 0
@@ -154,7 +160,7 @@ module _ (l j : ℕ) where
       rw front at (words-alike 0 4 (full * 16)) ∙ ap (replicate (full * 16)) (number-zeros 4 4) in
       ap (λ t. ending H 0 (replicate t 0)) whole
       ∙ ap (ending H 0) (sym (replicate-append-replicate {A = ℕ} (full * 64) (l % 64) 0))
-      ∙ ending-front H (sha1-proper 32) full 0 (replicate (full * 64) 0) (replicate (l % 64) 0)
+      ∙ ending-front H (hash-proper 32 0) full 0 (replicate (full * 64) 0) (replicate (l % 64) 0)
       (length-replicate {A = ℕ} (full * 64) 0)
       ∙ ap₂ (λ x t. x ++ ending H t (replicate (l % 64) 0)) zero-words (zero-add (full * 64))
 

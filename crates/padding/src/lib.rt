@@ -1,10 +1,10 @@
 // What is hashed after so many bytes that went into the chain already: a text with its padding, byte by byte, word by word and
-// block by block, as public values.
+// block by block, as public values. SHA-1 and SHA-256 have the same padding; it is said of SHA-1.
 ghost use mathlib.Core.Path.{_≡_};
 ghost use Prim.Native.Nat.{_+_, _*_, _/_, _%_, _^_, _<_};
 ghost use lib.ListN.{length, getD, take, drop, replicate};
 ghost use Rattle.rules.specs.Hash.{ended, ending};
-ghost use Rattle.hash.specs.Hash.{hash};
+ghost use Rattle.rules.specs.Standard.{SHA1};
 ghost use Rattle.padding.specs.Whole.{Hashable, blocksIn};
 use rules::BLOCK_BYTES;
 use rules::BLOCK_WORDS;
@@ -30,7 +30,7 @@ fn count_byte(count: usize, j: usize) -> u8
 // Byte i of the text with its padding.
 fn byte_at(before: usize, text: &[u8], i: usize) -> u8
     requires { ⌜ (before % 64 ≡ 0) × Hashable (before + length (now text)) × (i < blocksIn (length (now text)) * 64) ⌝ }
-    ensures { λ r. ⌜ r ≡ getD (ended (hash .standard) before (now (text .entry))) i 0 ⌝ }
+    ensures { λ r. ⌜ r ≡ getD (ended (SHA1 32) before (now (text .entry))) i 0 ⌝ }
 {
     let l = text.len();
     if i < l {
@@ -56,7 +56,7 @@ pub fn joined(a: u8, b: u8, c: u8, d: u8) -> u32
 // Word i of the text with its padding.
 fn word_at(before: usize, text: &[u8], i: usize) -> u32
     requires { ⌜ (before % 64 ≡ 0) × Hashable (before + length (now text)) × (i < blocksIn (length (now text)) * 16) ⌝ }
-    ensures { λ r. ⌜ r ≡ getD (ending (hash .standard) before (now (text .entry))) i 0 ⌝ }
+    ensures { λ r. ⌜ r ≡ getD (ending (SHA1 32) before (now (text .entry))) i 0 ⌝ }
 {
     let p = WORD_BYTES * i;
     joined(
@@ -70,7 +70,7 @@ fn word_at(before: usize, text: &[u8], i: usize) -> u32
 // Block j of the text with its padding, as 16 words.
 pub fn block_words(before: usize, text: &[u8], j: usize, z: &mut [u32])
     requires { ⌜ (before % 64 ≡ 0) × Hashable (before + length (now text)) × (j < blocksIn (length (now text))) × (length (now z) ≡ 16) ⌝ }
-    ensures { λ _. ⌜ now (z .exit) ≡ take 16 (drop (16 * j) (ending (hash .standard) before (now (text .entry)))) ⌝ }
+    ensures { λ _. ⌜ now (z .exit) ≡ take 16 (drop (16 * j) (ending (SHA1 32) before (now (text .entry)))) ⌝ }
 {
     let mut w = 0;
     while w < z.len() {
@@ -82,7 +82,7 @@ pub fn block_words(before: usize, text: &[u8], j: usize, z: &mut [u32])
 // Block j of the padding after so many bytes that stand elsewhere, as 16 words: 0 where they stand.
 pub fn padding_words(bytes: usize, j: usize, z: &mut [u32])
     requires { ⌜ Hashable bytes × (j < blocksIn bytes) × (length (now z) ≡ 16) ⌝ }
-    ensures { λ _. ⌜ now (z .exit) ≡ take 16 (drop (16 * j) (ending (hash .standard) 0 (replicate bytes 0))) ⌝ }
+    ensures { λ _. ⌜ now (z .exit) ≡ take 16 (drop (16 * j) (ending (SHA1 32) 0 (replicate bytes 0))) ⌝ }
 {
     let full = bytes / BLOCK_BYTES;
     if j < full {

@@ -3,16 +3,17 @@ use Prim.Native.Nat.{ℕ, suc, _+_, _-_, _*_, _/_, _%_, _≤_, _<_}
 use mathlib.Core.Path.{_≡_, sym, ap, _∙_}
 use mathlib.Core.List.{List, [], _∷_, _++_, map, append-nil, append-assoc}
 use native.Mathlib.Omega.{arith}
-use native.Mathlib.Nat.{add-mul}
+use native.Mathlib.Nat.{add-mul, sub-zero, zero-mul}
 use lib.ListN.{length, set, take, drop}
 use lib.Seq.{take-all, drop-drop}
 use Rattle.words.proofs.Stores.{take-sets}
 use Rattle.rules.specs.Numbers.{largest}
 use Rattle.rules.specs.Supply.{opened}
-use Rattle.rules.specs.Hash.{bytesOf, allBytes}
-use Rattle.rules.specs.Sha1.{word, openWords, used}
-use Rattle.rules.proofs.Loops.{chain-length, length-used}
-use Rattle.sha1.proofs.Parts.{used-lent}
+use Rattle.rules.specs.Hash.{chainWords, digestBytes, bytesOf, allBytes}
+use Rattle.rules.specs.Sha1.{word, openWords}
+use Rattle.rules.specs.Hmac.{used, tagOf}
+use Rattle.hash.specs.Hash.{standard}
+use Rattle.hash.proofs.Chains.{lent, lent-size, array-end}
 
 -- a word as bytes
 pub bytes-put : (tag : List ℕ) (v i : ℕ) → i + 4 ≤ length tag
@@ -29,33 +30,40 @@ bytes-put tag v i h =
     (ap (λ t. take (i + 4) (set three (suc (suc (suc i))) (t % 256))) one
     ∙ take-sets tag (v / 16777216 % 256 ∷ v / 65536 % 256 ∷ v / 256 % 256 ∷ v / 1 % 256 ∷ []) i h)
 
--- w words done, the rest still in shares
-module _ (n : ℕ) (s : List ℕ) where
+-- of m words w done, the rest still in shares
+module _ (n m : ℕ) (s : List ℕ) where
   abbrev pub Opening : ℕ → List ℕ → List ℕ
-  Opening w tag = take (4 * w) tag ++ allBytes 4 (openWords n (5 - w) (drop (w * n) s))
+  Opening w tag = take (4 * w) tag ++ allBytes 4 (openWords n (m - w) (drop (w * n) s))
 
-  pub tag-next : (tag tag1 x done : List ℕ) (w v : ℕ) → w < 5 → x ≡ word n w s → v ≡ opened x
+  pub tag-begin : (tag : List ℕ) → Opening 0 tag ≡ allBytes 4 (openWords n m s)
+  tag-begin tag = rw (sub-zero m, zero-mul n)
+
+  pub tag-next : (tag tag1 x done : List ℕ) (w v : ℕ) → w < m → x ≡ word n w s → v ≡ opened x
       → take (4 * w + 4) tag1 ≡ take (4 * w) tag ++ bytesOf 4 v → Opening w tag ≡ done → Opening (w + 1) tag1 ≡ done
   unfolding openWords allBytes word
   tag-next tag tag1 x done w v h e f g p =
-      let left : 5 - w ≡ suc (5 - (w + 1)) = omega arith in
+      let left : m - w ≡ suc (m - (w + 1)) = omega arith in
       let i : 4 * (w + 1) ≡ 4 * w + 4 = omega arith in
       let k : (w + 1) * n ≡ w * n + n = omega (arith, add-mul w 1 n) in
-      let rest = allBytes 4 (openWords n (5 - (w + 1)) (drop n (drop (w * n) s))) in
+      let rest = allBytes 4 (openWords n (m - (w + 1)) (drop n (drop (w * n) s))) in
       rw (i, k, g, ← drop-drop n (w * n) s, f, e)
       (append-assoc (take (4 * w) tag) (bytesOf 4 (opened (take n (drop (w * n) s)))) rest ∙ (rw left at p))
 
-  pub tag-end : (tag done : List ℕ) (w : ℕ) → 5 ≤ w → length tag ≡ 20 → Opening w tag ≡ done → tag ≡ done
+  pub tag-end : (tag done : List ℕ) (w : ℕ) → m ≤ w → length tag ≡ m * 4 → Opening w tag ≡ done → tag ≡ done
   unfolding openWords allBytes
   tag-end tag done w h l p =
-      let none : 5 - w ≡ 0 = omega arith in
+      let none : m - w ≡ 0 = omega arith in
       sym (append-nil tag) ∙ ap (λ (t : List ℕ). t ++ []) (sym (take-all (4 * w) tag (omega arith))) ∙ (rw none at p)
 
 -- the used words of a chain, lent and opened
-pub lent-used : (n : ℕ) (chain : List ℕ) → length (map (λ (v : ℕ). v) chain) ≡ 5 * largest → n ≤ largest
-    → length (take (5 * n - 0) chain) ≡ 5 * n
-lent-used n chain e h = ap length (used-lent n chain) ∙ length-used n chain h (chain-length chain e)
+module _ (code n m end : ℕ) (words : m ≡ chainWords (standard code)) where
+  pub lent-words : (chain : List ℕ) → length (map (λ (v : ℕ). v) chain) ≡ 128 → end ≡ chainWords (standard code) * n
+      → end ≤ 8 * n → n ≤ largest → length (take (end - 0) chain) ≡ m * n
+  lent-words chain whole is most low = rw words (lent-size code n end is chain (array-end n end chain whole most low))
 
-pub tag-opened : (n : ℕ) (chain tag : List ℕ) → tag ≡ allBytes 4 (openWords n 5 (take (5 * n - 0) chain))
-    → tag ≡ allBytes 4 (openWords n 5 (used n chain))
-tag-opened n chain tag e = e ∙ ap (λ s. allBytes 4 (openWords n 5 s)) (used-lent n chain)
+  pub tag-size : (l : ℕ) → l ≡ digestBytes (standard code) → l ≡ m * 4
+  tag-size l e = rw words e
+
+  pub tag-opened : (chain tag : List ℕ) → end ≡ chainWords (standard code) * n
+      → tag ≡ allBytes 4 (openWords n m (take (end - 0) chain)) → tag ≡ tagOf (standard code) n (used (standard code) n chain)
+  tag-opened chain tag is e = e ∙ rw (words, lent code n end is chain)

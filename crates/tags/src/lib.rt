@@ -4,10 +4,13 @@ ghost use mathlib.Core.List.{_++_};
 ghost use Prim.Native.Nat.{_+_, _*_, _≤_};
 ghost use lib.ListN.{length, take};
 ghost use Rattle.rules.specs.Numbers.{largest};
-ghost use Rattle.rules.specs.Hash.{allBytes, bytesOf};
-ghost use Rattle.rules.specs.Sha1.{openWords, used};
-use rules::CHAIN_WORDS;
-use rules::Chain;
+ghost use Rattle.rules.specs.Hash.{digestBytes, allBytes, bytesOf};
+ghost use Rattle.rules.specs.Sha1.{openWords};
+ghost use Rattle.rules.specs.Hmac.{used, tagOf};
+ghost use Rattle.hash.specs.Hash.{standard};
+use hash::chain_end;
+use hash::chain_words;
+use rules::Sha256Chain;
 use rules::WORD_BYTES;
 
 // Word w of a tag becomes the bytes of v, the highest first.
@@ -22,13 +25,13 @@ fn put_bytes(v: u32, w: usize, tag: &mut [u8])
     tag[i + 3] = (v % 256) as u8;
 }
 
-// Words in shares, opened: their bytes.
-fn open_bytes(n: usize, digest: &[u32], tag: &mut [u8])
-    requires { ⌜ (length (now digest) ≡ 5 * n) × (length (now tag) ≡ 20) ⌝ }
-    ensures { λ _. ⌜ now (tag .exit) ≡ allBytes 4 (openWords n 5 (now (digest .entry))) ⌝ }
+// So many words in shares, opened: their bytes.
+fn open_bytes(n: usize, count: usize, digest: &[u32], tag: &mut [u8])
+    requires { ⌜ (length (now digest) ≡ count * n) × (length (now tag) ≡ count * 4) ⌝ }
+    ensures { λ _. ⌜ now (tag .exit) ≡ allBytes 4 (openWords n count (now (digest .entry))) ⌝ }
 {
-    let mut w: usize = 0;
-    while w < CHAIN_WORDS {
+    let mut w = 0;
+    while w < count {
         let v = shares::open_xor(masked_words::word(digest, n, w));
         put_bytes(v, w, tag);
         w += 1;
@@ -36,11 +39,11 @@ fn open_bytes(n: usize, digest: &[u32], tag: &mut [u8])
 }
 
 // A tag in shares, opened: its bytes.
-pub fn tag_bytes(n: usize, chain: Chain, tag: &mut [u8])
-    requires { ⌜ (n ≤ largest) × (length (now tag) ≡ 20) ⌝ }
-    ensures { λ _. ⌜ now (tag .exit) ≡ allBytes 4 (openWords n 5 (used n (chain .shares))) ⌝ }
+pub fn tag_bytes(code: u32, n: usize, chain: Sha256Chain, tag: &mut [u8])
+    requires { ⌜ (n ≤ largest) × (length (now tag) ≡ digestBytes (standard code)) ⌝ }
+    ensures { λ _. ⌜ now (tag .exit) ≡ tagOf (standard code) n (used (standard code) n (chain .shares)) ⌝ }
 {
-    let m = CHAIN_WORDS * n;
+    let end = chain_end(code, n);
     let all = chain.shares;
-    open_bytes(n, &all[0..m], tag);
+    open_bytes(n, chain_words(code), &all[0..end], tag);
 }

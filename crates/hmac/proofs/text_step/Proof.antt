@@ -4,9 +4,9 @@ use Prim.Native.Nat.{_+_, _-_, _*_, _≤_}
 use mathlib.Core.Path.{_≡_}
 use lib.ListN.{length}
 use Rattle.rules.specs.Hash.{ending}
-use Rattle.rules.specs.Sha1.{publics, used}
-use Rattle.rules.specs.Hmac.{blocks}
-use Rattle.hash.specs.Hash.{hash}
+use Rattle.rules.specs.Sha1.{publics}
+use Rattle.rules.specs.Hmac.{used, blocks}
+use Rattle.hash.specs.Hash.{hash, standard}
 use Rattle.padding.specs.Whole.{blocksIn}
 use Rattle.hash.proofs.Blocks.{Left, blocks-begin, blocks-end, block-room, block-place}
 use Rattle.hmac.proofs.Steps.{text-next}
@@ -14,14 +14,14 @@ use Rattle.hmac.proofs.text_step.Statement.{statement}
 use Rattle.hmac.proofs.text_step.Tie as tie
 
 abbrev Inv-loop : tie.InvT-loop
-Inv-loop n before text block₀ words at count c₀ p₀ j₀ block c p j =
-    let W = ending (hash .standard) before text in
-    (j ≤ count) × (length block ≡ 16 * n) × (count ≡ blocksIn (length text)) × (p ≡ at + j * hash .draws n)
-    × (Left n words (publics n W) count j (used n (c .shares)) p
-    ≡ blocks hash n (blocksIn (length text)) (publics n W) (used n (c₀ .shares)) words at)
+Inv-loop code n before text block₀ words at count c₀ p₀ j₀ block c p j =
+    let W = ending (standard code) before text in
+    (j ≤ count) × (length block ≡ 16 * n) × (count ≡ blocksIn (length text)) × (p ≡ at + j * hash code .draws n)
+    × (Left code n words (publics n W) count j (used (standard code) n (c .shares)) p
+    ≡ blocks (hash code) n (blocksIn (length text)) (publics n W) (used (standard code) n (c₀ .shares)) words at)
 
 abbrev μ-loop : tie.MeasureT-loop
-μ-loop n before text block₀ words at count c₀ p₀ j₀ block c p j = count - j
+μ-loop code n before text block₀ words at count c₀ p₀ j₀ block c p j = count - j
 
 pub text-step-spec : {M : Type 1} → statement M
 text-step-spec =

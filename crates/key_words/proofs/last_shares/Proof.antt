@@ -4,7 +4,7 @@ use Prim.Native.Nat.{_+_, _-_, _*_, _≤_}
 use mathlib.Core.Path.{_≡_, refl}
 use lib.ListN.{length, take, length-set}
 use Rattle.rules.specs.Hmac.{keyWords}
-use Rattle.hash.specs.Hash.{hash}
+use Rattle.rules.specs.Standard.{SHA1}
 use Rattle.hash.proofs.Blocks.{block-room, block-place}
 use Rattle.key_words.specs.Held.{lastShares}
 use Rattle.key_words.proofs.Held.{lasts-fits, lasts-next, lasts-end}
@@ -15,7 +15,7 @@ abbrev Inv-loop : tie.InvT-loop
 Inv-loop n key z₀ words at p₀ w₀ z p w =
     let m = length z₀ in
     (w ≤ length z) × (length z ≡ m) × (p ≡ at + w * (n - 1))
-    × (take w z ≡ take w (lastShares n (keyWords (hash .standard) m key) words at))
+    × (take w z ≡ take w (lastShares n (keyWords (SHA1 32) m key) words at))
 
 abbrev μ-loop : tie.MeasureT-loop
 μ-loop n key z₀ words at p₀ w₀ z p w = length z₀ - w

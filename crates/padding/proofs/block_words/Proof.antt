@@ -4,14 +4,14 @@ use Prim.Native.Nat.{_-_, _*_, _≤_}
 use mathlib.Core.Path.{_≡_, refl}
 use lib.ListN.{length, take, drop, length-set}
 use Rattle.rules.specs.Hash.{ending}
-use Rattle.hash.specs.Hash.{hash}
+use Rattle.rules.specs.Standard.{SHA1}
 use Rattle.padding.proofs.Padded.{block-next, block-end}
 use Rattle.padding.proofs.block_words.Statement.{statement}
 use Rattle.padding.proofs.block_words.Tie as tie
 
 abbrev Inv-loop : tie.InvT-loop
 Inv-loop before text j z₀ w₀ z w =
-    (w ≤ 16) × (length z ≡ 16) × (take w z ≡ take w (take 16 (drop (16 * j) (ending (hash .standard) before text))))
+    (w ≤ 16) × (length z ≡ 16) × (take w z ≡ take w (take 16 (drop (16 * j) (ending (SHA1 32) before text))))
 
 abbrev μ-loop : tie.MeasureT-loop
 μ-loop before text j z₀ w₀ z w = 16 - w
