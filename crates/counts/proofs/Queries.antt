@@ -8,12 +8,14 @@ use native.Mathlib.Omega.{arith}
 use lib.Dec.{eqb, leb}
 use lib.ListN.{getD}
 use borrow.Author.Tests.{eqb-true, leb-true}
+use mir.Syntax.{w64}
+use mir.Val.{Fits}
 use Rattle.width.specs.Width.{bits}
 use Rattle.rules.specs.declared.Answer.{Answer}
 use Rattle.rules.specs.Numbers.{largest, longestKey, longestMessage, choose, either, power, allowed, Test, test, first}
 use Rattle.rules.specs.Numbers.{both, settled, told}
 use Rattle.rules.specs.Counts.{andDraws, refreshDraws, addDraws, toBoolDrawsIn, toBoolDraws, toArithDraws}
-use Rattle.rules.specs.Counts.{compressDraws, keyDraws, stateDraws, sha1}
+use Rattle.rules.specs.Counts.{quarterAnds, roundsAnds, compressAnds, keyDraws, stateDraws, hashOf}
 use Rattle.rules.specs.Calls.{query}
 use Rattle.rules.specs.Stream.{fit}
 use Rattle.rules.proofs.Calls.{settled-refused, tells}
@@ -21,7 +23,7 @@ use Rattle.rules.proofs.Sizes.{compress-count}
 use Rattle.rules.proofs.Keys.{short-draws, long-draws}
 use Rattle.rules.proofs.Allowed.{Taken, one, two, four, eight, counted, both-true, within, some, few}
 use Rattle.rules.proofs.Allowed.{every, each-to}
-use Rattle.counts.specs.Queries.{taken, byPower, byText}
+use Rattle.counts.specs.Queries.{taken, andsOf, byPower, byText}
 
 told-count : (counted : Bool) (d : ℕ) → told (test 1 counted ∷ []) d ≡ choose counted d 0
 unfolding first test
@@ -166,29 +168,63 @@ by-power d n two′ four′ eight′ h₁ h₂ h₄ h₈ = rw (told-count, go (p
     go false e = let o = others n e in rw (o .0, o .1, o .2)
 
 -- ---- compressions: what one draws is told, and is not over what it draws at the largest share count
+one-draws : (code : ℕ) → hashOf 32 code .draws 1 ≡ 0
+one-draws zero = compress-count 0 1
+one-draws (suc code) = compress-count (suc code) 1
+
 abbrev most : ℕ
-most = 1252800
+most = 2319360
 
-compress-most : (n : ℕ) → 0 < n → n ≤ largest → compressDraws 32 n ≤ most
-compress-most n h l = rw (compress-count n) (omega (arith, pairs-below n h l))
+compress-most : (code n : ℕ) → 0 < n → n ≤ largest → hashOf 32 code .draws n ≤ most
+compress-most zero n h l = rw (compress-count 0 n) (omega (arith, pairs-below n h l))
+compress-most (suc code) n h l = rw (compress-count (suc code) n) (omega (arith, pairs-below n h l))
 
-module _ (n : ℕ) (each : Answer) (e : query (test 1 (allowed n) ∷ []) (compressDraws 32 n) ≡ each) where
+module _ (code n : ℕ) (each : Answer) (e : query (test 1 (allowed n) ∷ []) (hashOf 32 code .draws n) ≡ each) where
   pub compress-below : each .drawn ≤ most
   compress-below =
-      let all = sym e ∙ by-count (compressDraws 32) n (compress-count 1) in
+      let all = sym e ∙ by-count (hashOf 32 code .draws) n (one-draws code) in
       let taken = taken-within n in
-      rw (ap (λ (q : Answer). q .drawn) all) (compress-most _ (taken .0) (taken .1))
+      rw (ap (λ (q : Answer). q .drawn) all) (compress-most code _ (taken .0) (taken .1))
 
-  pub compress-told : allowed n ≡ true → compressDraws 32 n ≡ each .drawn
+  pub compress-told : allowed n ≡ true → hashOf 32 code .draws n ≡ each .drawn
   unfolding first test
-  compress-told h = tells (test 1 (allowed n) ∷ []) (compressDraws 32 n) each e (rw h)
+  compress-told h = tells (test 1 (allowed n) ∷ []) (hashOf 32 code .draws n) each e (rw h)
 
   -- so many of them fit into 64 bits
   pub compressions-fit : (m : ℕ) → m ≤ 1028 → m * each .drawn < 2 ^ 64
   compressions-fit m h = omega (arith, mul-le-mul h compress-below)
 
+-- what a compression draws, by its ANDs
+module _ (code : ℕ) where
+  pub sha1-ands : code ≡ 0 → 10440 ≡ andsOf code
+  unfolding quarterAnds roundsAnds compressAnds
+  sha1-ands e = rw e
+
+  pub sha256-ands : (code ≡ 0 → ⊥) → 19328 ≡ andsOf code
+  sha256-ands h = go code h
+    where
+      go : (c : ℕ) → (c ≡ 0 → ⊥) → 19328 ≡ andsOf c
+      go zero h = absurd (h refl)
+      go (suc c) h = refl
+
+  ands-draw : (n : ℕ) → andsOf code * andDraws n ≡ hashOf 32 code .draws n
+  ands-draw n = go code
+    where
+      go : (c : ℕ) → andsOf c * andDraws n ≡ hashOf 32 c .draws n
+      go zero = refl
+      go (suc c) = refl
+
+  pub query-compress : (n m p a : ℕ) (q : Answer) → m ≡ taken n → p ≡ andDraws m → a ≡ andsOf code
+      → record { number = first (test 1 (allowed n) ∷ []); drawn = a * p } ≡ q
+      → query (test 1 (allowed n) ∷ []) (hashOf 32 code .draws n) ≡ q
+  query-compress n m p a q e f g h = rw (← ands-draw n) (query-pairs (andsOf code) n m p q e f (rw g at h))
+
+-- the product fits
+pub ands-fit : (a p : ℕ) → a ≤ 19328 → p ≤ 120 → Fits w64 (a * p)
+ands-fit a p h l = record { fits = omega (arith, mul-le-mul h l) }
+
 -- ---- a state, first by its share count and its bytes
-module _ (n bytes drawn finished hash : ℕ) {inside : Bool}
+module _ (code n bytes drawn finished hash : ℕ) {inside : Bool}
     (is : inside ≡ both (allowed n) (leb bytes longestMessage)) where
   pub inside-ready : inside ≡ true → (0 < n) × (n ≤ largest) × (bytes ≤ longestMessage)
   inside-ready h =
@@ -196,30 +232,30 @@ module _ (n bytes drawn finished hash : ℕ) {inside : Bool}
       let count = within n (p .0) in
       (count .0, count .1, leb-true bytes longestMessage (p .1))
 
-  pub outside-unfit : inside ≡ false → false ≡ fit (sha1 32) n bytes drawn finished hash
+  pub outside-unfit : inside ≡ false → false ≡ fit (hashOf 32 code) n bytes drawn finished hash
   unfolding fit
   outside-unfit h = rw (sym is ∙ h)
 
-  pub inside-fit : inside ≡ true → {count : ℕ} → count ≡ stateDraws (sha1 32) n bytes
-      → both (eqb finished 0) (both (eqb hash 0) (eqb drawn count)) ≡ fit (sha1 32) n bytes drawn finished hash
+  pub inside-fit : inside ≡ true → {count : ℕ} → count ≡ stateDraws (hashOf 32 code) n bytes
+      → both (eqb finished 0) (both (eqb hash code) (eqb drawn count)) ≡ fit (hashOf 32 code) n bytes drawn finished hash
   unfolding fit
   inside-fit h e = rw (sym is ∙ h, e)
 
 -- ---- splitting a key of l bytes, with n shares
-module _ (n l : ℕ) (count : allowed n ≡ true) (short : l ≤ longestKey) where
+module _ (code n l : ℕ) (count : allowed n ≡ true) (short : l ≤ longestKey) where
   pub key-product : (l + 3) / 4 * (n - 1) ≤ 3840
   key-product =
       let most-words : (l + 3) / 4 ≤ 256 = omega arith in
       let most-each : n - 1 ≤ 15 = omega (arith, few n count) in
       mul-le-mul most-words most-each
 
-  pub key-sum : (hashed m : ℕ) → hashed ≡ m * compressDraws 32 n → m ≤ 17 → (l + 3) / 4 * (n - 1) + hashed < 2 ^ 64
+  pub key-sum : (hashed m : ℕ) → hashed ≡ m * hashOf 32 code .draws n → m ≤ 17 → (l + 3) / 4 * (n - 1) + hashed < 2 ^ 64
   key-sum hashed m e h =
-      omega (arith, key-product, mul-le-mul h (compress-most n (some n count) (few n count)))
+      omega (arith, key-product, mul-le-mul h (compress-most code n (some n count) (few n count)))
 
-  pub short-told : l ≤ 64 → 16 * (n - 1) ≡ keyDraws (sha1 32) n l
-  short-told h = sym (short-draws (sha1 32) n l h)
+  pub short-told : l ≤ 64 → 16 * (n - 1) ≡ keyDraws (hashOf 32 code) n l
+  short-told h = sym (short-draws (hashOf 32 code) n l h)
 
-  pub long-told : (hashed : ℕ) → 64 < l → hashed ≡ ((l + 8) / 64 + 1) * compressDraws 32 n
-      → (l + 3) / 4 * (n - 1) + hashed ≡ keyDraws (sha1 32) n l
-  long-told hashed h e = rw e (sym (long-draws (sha1 32) n l h))
+  pub long-told : (hashed : ℕ) → 64 < l → hashed ≡ ((l + 8) / 64 + 1) * hashOf 32 code .draws n
+      → (l + 3) / 4 * (n - 1) + hashed ≡ keyDraws (hashOf 32 code) n l
+  long-told hashed h e = rw e (sym (long-draws (hashOf 32 code) n l h))

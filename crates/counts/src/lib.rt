@@ -9,11 +9,11 @@ ghost use Rattle.width.specs.Width.{bits};
 ghost use Rattle.rules.specs.Numbers.{largest, longestKey, longestMessage, choose, power, allowed, test, first};
 ghost use Rattle.rules.specs.Standard.{SHA1};
 ghost use Rattle.rules.specs.Counts.{refreshDraws, andDraws, addDraws, toBoolDraws, toArithDraws, shortDraws};
-ghost use Rattle.rules.specs.Counts.{compressDraws, compressions, keyDraws, hmacDraws, startDraws, feedDraws};
-ghost use Rattle.rules.specs.Counts.{finishDraws, stateDraws, sha1};
+ghost use Rattle.rules.specs.Counts.{compressions, keyDraws, hmacDraws, startDraws, feedDraws};
+ghost use Rattle.rules.specs.Counts.{finishDraws, stateDraws, hashOf};
 ghost use Rattle.rules.specs.Calls.{query};
 ghost use Rattle.rules.specs.Stream.{fit};
-ghost use Rattle.counts.specs.Queries.{taken, byText};
+ghost use Rattle.counts.specs.Queries.{taken, andsOf, byText};
 use numbers::DONE;
 use numbers::TOO_LONG;
 use numbers::WRONG_COUNT;
@@ -55,8 +55,10 @@ const TO_BOOL: [usize; 17] = [
     6720,
 ];
 
-// How many ANDs a compression makes.
-const COMPRESS_ANDS: usize = 10440;
+// How many ANDs a compression of SHA-1 makes, and one of SHA-256.
+const SHA1_ANDS: usize = 10440;
+
+const SHA256_ANDS: usize = 19328;
 
 fn choose(asked: bool, a: usize, b: usize) -> usize
     ensures { λ r. ⌜ r ≡ choose asked a b ⌝ }
@@ -164,11 +166,21 @@ pub fn short_words(n: usize) -> Answer
     answer(tested(DONE, WRONG_COUNT, is_power(n)), drawn)
 }
 
-// One compression: 5,220n(n − 1).
-pub fn compress_words(n: usize) -> Answer
-    ensures { λ r. ⌜ query (test 1 (allowed n) ∷ []) (compressDraws 32 n) ≡ r ⌝ }
+// The ANDs of a compression.
+fn compress_ands(code: u32) -> usize
+    ensures { λ r. ⌜ (r ≡ andsOf code) × (r ≤ 19328) ⌝ }
 {
-    by_count(n, COMPRESS_ANDS * pairs(taken(n)))
+    if code == SHA1 {
+        return SHA1_ANDS;
+    }
+    SHA256_ANDS
+}
+
+// One compression: 5,220n(n − 1), or 9,664n(n − 1).
+pub fn compress_words(code: u32, n: usize) -> Answer
+    ensures { λ r. ⌜ query (test 1 (allowed n) ∷ []) (hashOf 32 code .draws n) ≡ r ⌝ }
+{
+    by_count(n, compress_ands(code) * pairs(taken(n)))
 }
 
 // The compressions of HMAC of a message of so many bytes, where that is not too long.
@@ -182,10 +194,10 @@ fn compressions(message: usize) -> usize
 }
 
 // HMAC of a message of so many bytes.
-pub fn hmac_words(n: usize, message: usize) -> Answer
-    ensures { λ r. ⌜ query (test 1 (allowed n) ∷ test 4 (leb message longestMessage) ∷ []) (hmacDraws (sha1 32) n message) ≡ r ⌝ }
+pub fn hmac_words(code: u32, n: usize, message: usize) -> Answer
+    ensures { λ r. ⌜ query (test 1 (allowed n) ∷ test 4 (leb message longestMessage) ∷ []) (hmacDraws (hashOf 32 code) n message) ≡ r ⌝ }
 {
-    let each = compress_words(n);
+    let each = compress_words(code, n);
     let all = answer(each.number, compressions(message) * each.drawn);
     by_text(all, message <= LONGEST_MESSAGE)
 }
@@ -193,61 +205,68 @@ pub fn hmac_words(n: usize, message: usize) -> Answer
 // ---- keys and streaming
 
 // Both key blocks.
-pub fn start_words(n: usize) -> Answer
-    ensures { λ r. ⌜ query (test 1 (allowed n) ∷ []) (startDraws (sha1 32) n) ≡ r ⌝ }
+pub fn start_words(code: u32, n: usize) -> Answer
+    ensures { λ r. ⌜ query (test 1 (allowed n) ∷ []) (startDraws (hashOf 32 code) n) ≡ r ⌝ }
 {
-    let each = compress_words(n);
+    let each = compress_words(code, n);
     answer(each.number, 2 * each.drawn)
 }
 
 // So many compressions of an allowed share count.
-fn compressions_words(count: usize, n: usize) -> usize
+fn compressions_words(code: u32, count: usize, n: usize) -> usize
     requires { ⌜ (count ≤ 1028) × (allowed n ≡ true) ⌝ }
-    ensures { λ r. ⌜ r ≡ count * compressDraws 32 n ⌝ }
+    ensures { λ r. ⌜ r ≡ count * hashOf 32 code .draws n ⌝ }
 {
-    count * compress_words(n).drawn
+    count * compress_words(code, n).drawn
 }
 
 // The words of a key of so many bytes, n − 1 for each; where it is over one block, then the compressions that hash it.
-fn key_draws(n: usize, key: usize) -> usize
+fn key_draws(code: u32, n: usize, key: usize) -> usize
     requires { ⌜ (allowed n ≡ true) × (key ≤ longestKey) ⌝ }
-    ensures { λ r. ⌜ r ≡ keyDraws (sha1 32) n key ⌝ }
+    ensures { λ r. ⌜ r ≡ keyDraws (hashOf 32 code) n key ⌝ }
 {
     if key <= BLOCK_BYTES {
         return BLOCK_WORDS * (n - 1);
     }
     let words = (key + (WORD_BYTES - 1)) / WORD_BYTES;
     let blocks = (key + LENGTH_BYTES) / BLOCK_BYTES + 1;
-    words * (n - 1) + compressions_words(blocks, n)
+    words * (n - 1) + compressions_words(code, blocks, n)
 }
 
 // Splitting a key of so many bytes.
-pub fn key_words(n: usize, key: usize) -> Answer
-    ensures { λ r. ⌜ query (test 1 (allowed n) ∷ test 4 (leb key longestKey) ∷ []) (keyDraws (sha1 32) n key) ≡ r ⌝ }
+pub fn key_words(code: u32, n: usize, key: usize) -> Answer
+    ensures { λ r. ⌜ query (test 1 (allowed n) ∷ test 4 (leb key longestKey) ∷ []) (keyDraws (hashOf 32 code) n key) ≡ r ⌝ }
 {
     let number = key_fitness(n, key);
     if number != DONE {
         return answer(number, 0);
     }
-    answer(DONE, key_draws(n, key))
+    answer(DONE, key_draws(code, n, key))
 }
 
 // The count that a state carries once so many bytes were fed: start's words, and those of the blocks that they filled.
-pub fn state_words(n: usize, bytes: usize) -> usize
+pub fn state_words(code: u32, n: usize, bytes: usize) -> usize
     requires { ⌜ (0 < n) × (n ≤ largest) × (bytes ≤ longestMessage) ⌝ }
-    ensures { λ r. ⌜ r ≡ stateDraws (sha1 32) n bytes ⌝ }
+    ensures { λ r. ⌜ r ≡ stateDraws (hashOf 32 code) n bytes ⌝ }
 {
-    compressions_words(2 + bytes / BLOCK_BYTES, n)
+    compressions_words(code, 2 + bytes / BLOCK_BYTES, n)
 }
 
 // A state that feed and finish take, by its counts, its mark and its hash.
-fn is_fit(n: usize, bytes: usize, drawn: usize, finished: u32, hash: u32) -> bool
-    ensures { λ r. ⌜ r ≡ fit (sha1 32) n bytes drawn finished hash ⌝ }
+fn is_fit(
+    code: u32,
+    n: usize,
+    bytes: usize,
+    drawn: usize,
+    finished: u32,
+    hash: u32,
+) -> bool
+    ensures { λ r. ⌜ r ≡ fit (hashOf 32 code) n bytes drawn finished hash ⌝ }
 {
     if both(is_allowed(n), bytes <= LONGEST_MESSAGE) {
         return both(
             finished == 0,
-            both(hash == SHA1, drawn == state_words(n, bytes)),
+            both(hash == code, drawn == state_words(code, n, bytes)),
         );
     }
     false
@@ -255,6 +274,7 @@ fn is_fit(n: usize, bytes: usize, drawn: usize, finished: u32, hash: u32) -> boo
 
 // The blocks that a piece of so many bytes fills.
 pub fn feed_words(
+    code: u32,
     n: usize,
     bytes: usize,
     drawn: usize,
@@ -262,26 +282,33 @@ pub fn feed_words(
     hash: u32,
     piece: usize,
 ) -> Answer
-    ensures { λ r. ⌜ query (test 6 (fit (sha1 32) n bytes drawn finished hash)
-        ∷ test 4 (leb (bytes + piece) longestMessage) ∷ []) (feedDraws (sha1 32) n bytes piece) ≡ r ⌝ }
+    ensures { λ r. ⌜ query (test 6 (fit (hashOf 32 code) n bytes drawn finished hash)
+        ∷ test 4 (leb (bytes + piece) longestMessage) ∷ []) (feedDraws (hashOf 32 code) n bytes piece) ≡ r ⌝ }
 {
-    let number = growth(is_fit(n, bytes, drawn, finished, hash), bytes, piece);
+    let number = growth(is_fit(code, n, bytes, drawn, finished, hash), bytes, piece);
     if number != DONE {
         return answer(number, 0);
     }
     let filled = (bytes % BLOCK_BYTES + piece) / BLOCK_BYTES;
-    answer(DONE, compressions_words(filled, n))
+    answer(DONE, compressions_words(code, filled, n))
 }
 
 // The last blocks of the message, and the digest block.
-pub fn finish_words(n: usize, bytes: usize, drawn: usize, finished: u32, hash: u32) -> Answer
-    ensures { λ r. ⌜ query (test 6 (fit (sha1 32) n bytes drawn finished hash) ∷ [])
-        (finishDraws (sha1 32) n bytes) ≡ r ⌝ }
+pub fn finish_words(
+    code: u32,
+    n: usize,
+    bytes: usize,
+    drawn: usize,
+    finished: u32,
+    hash: u32,
+) -> Answer
+    ensures { λ r. ⌜ query (test 6 (fit (hashOf 32 code) n bytes drawn finished hash) ∷ [])
+        (finishDraws (hashOf 32 code) n bytes) ≡ r ⌝ }
 {
-    let number = fitness(is_fit(n, bytes, drawn, finished, hash));
+    let number = fitness(is_fit(code, n, bytes, drawn, finished, hash));
     if number != DONE {
         return answer(number, 0);
     }
     let last = (bytes % BLOCK_BYTES + LENGTH_BYTES) / BLOCK_BYTES + 2;
-    answer(DONE, compressions_words(last, n))
+    answer(DONE, compressions_words(code, last, n))
 }

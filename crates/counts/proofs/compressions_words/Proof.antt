@@ -12,12 +12,12 @@ use Rattle.counts.proofs.compressions_words.Tie as tie
 mul-result : tie.Need-mul-result
 mul-result c =
     let few : c .before .before .args .count ≤ 1028 = search needs in
-    omega (arith, compressions-fit _ _ (c .before .compress-words .ensures) _ few)
+    omega (arith, compressions-fit (c .before .before .args .code) _ _ (c .before .compress-words .ensures) _ few)
 
 returns : tie.Need-returns
 returns c =
     let counted : allowed (c .before .before .args .n) ≡ true = search needs in
-    ap (λ d. c .before .before .args .count * d) (sym (compress-told _ _ (c .before .compress-words .ensures) counted))
+    ap (λ d. c .before .before .args .count * d) (sym (compress-told (c .before .before .args .code) _ _ (c .before .compress-words .ensures) counted))
 
 pub compressions-words-spec : {M : Type 1} → statement M
 compressions-words-spec =

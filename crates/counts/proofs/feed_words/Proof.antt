@@ -3,7 +3,7 @@ use Prim.Native.Nat.{_+_}
 use mathlib.Core.Path.{sym, _∙_}
 use native.Mathlib.Omega.{arith}
 use borrow.Author.Needs.{needs}
-use Rattle.rules.specs.Counts.{sha1}
+use Rattle.rules.specs.Counts.{hashOf}
 use Rattle.rules.proofs.Tested.{piece-ready}
 use Rattle.counts.proofs.Queries.{state-refused, state-done}
 use Rattle.counts.proofs.feed_words.Statement.{statement}
@@ -18,14 +18,14 @@ returns c =
 add-filled : tie.Need-add-filled
 add-filled c =
     let a = c .before .before .before .args in
-    let p = piece-ready (sha1 32) _ _ _ _ _ _ (c .before .before .is-fit .ensures) (a .bytes + a .piece)
+    let p = piece-ready (hashOf 32 (a .code)) _ _ _ _ _ _ (c .before .before .is-fit .ensures) (a .bytes + a .piece)
     (c .before .growth .ensures ∙ c .if1 .left) in
     omega (arith, p .1)
 
 compressions-words-requires : tie.Need-compressions-words-requires
 compressions-words-requires c κs =
     let a = c .before .before .before .args in
-    let p = piece-ready (sha1 32) _ _ _ _ _ _ (c .before .before .is-fit .ensures) (a .bytes + a .piece)
+    let p = piece-ready (hashOf 32 (a .code)) _ _ _ _ _ _ (c .before .before .is-fit .ensures) (a .bytes + a .piece)
     (c .before .growth .ensures ∙ c .if1 .left) in
     (omega (arith, p .1), p .0)
 

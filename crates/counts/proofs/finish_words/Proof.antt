@@ -2,7 +2,7 @@
 use mathlib.Core.Path.{sym, _∙_}
 use native.Mathlib.Omega.{arith}
 use borrow.Author.Needs.{needs}
-use Rattle.rules.specs.Counts.{sha1}
+use Rattle.rules.specs.Counts.{hashOf}
 use Rattle.rules.proofs.Tested.{fit-ready}
 use Rattle.counts.proofs.Queries.{state-refused, state-done}
 use Rattle.counts.proofs.finish_words.Statement.{statement}
@@ -16,7 +16,8 @@ returns c =
 
 compressions-words-requires : tie.Need-compressions-words-requires
 compressions-words-requires c κs =
-    let p = fit-ready (sha1 32) _ _ _ _ _ _ (c .before .before .is-fit .ensures)
+    let a = c .before .before .before .args in
+    let p = fit-ready (hashOf 32 (a .code)) _ _ _ _ _ _ (c .before .before .is-fit .ensures)
     (c .before .fitness .ensures ∙ c .if1 .left) in
     (omega (arith, p .1), p .0)
 

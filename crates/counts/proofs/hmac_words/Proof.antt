@@ -5,7 +5,7 @@ use borrow.Author.Needs.{needs}
 use lib.Dec.{leb}
 use Rattle.rules.specs.Numbers.{longestMessage}
 use Rattle.rules.specs.Standard.{SHA1}
-use Rattle.rules.specs.Counts.{compressDraws, compressions}
+use Rattle.rules.specs.Counts.{compressions, hashOf}
 use Rattle.counts.proofs.Queries.{query-blocks, compressions-fit}
 use Rattle.counts.proofs.hmac_words.Statement.{statement}
 use Rattle.counts.proofs.hmac_words.Tie as tie
@@ -14,7 +14,7 @@ mul-answer : tie.Need-mul-answer
 mul-answer c =
     omega (
       arith,
-      compressions-fit _ _ (c .before .before .compress-words .ensures) _
+      compressions-fit (c .before .before .before .args .code) _ _ (c .before .before .compress-words .ensures) _
           (c .before .compressions .ensures .0),
     )
 
@@ -22,7 +22,7 @@ returns : tie.Need-returns
 returns c =
     let s = c .before .before .before in
     let a = s .before .before .args in
-    query-blocks (a .n) (compressions (SHA1 32) (a .message)) _ (compressDraws 32 (a .n)) (leb (a .message) longestMessage) _
+    query-blocks (a .n) (compressions (SHA1 32) (a .message)) _ (hashOf 32 (a .code) .draws (a .n)) (leb (a .message) longestMessage) _
     (s .before .compress-words .ensures)
     (s .compressions .ensures .1)
     ∙ rw (c .before .answer .ensures) at (c .by-text .ensures)

@@ -7,18 +7,22 @@ use Rattle.counts.proofs.is_fit.Tie as tie
 
 state-words-requires : tie.Need-state-words-requires
 state-words-requires c κs =
-    inside-ready _ _ 0 0 0 (rw (c .before .before .is-allowed .ensures) at (c .before .both .ensures)) (c .if1 .taken)
+    inside-ready 0 _ _ 0 0 0 (rw (c .before .before .is-allowed .ensures) at (c .before .both .ensures)) (c .if1 .taken)
 
 returns : tie.Need-returns
 returns c =
     let inside = c .before .before .before .before in
+    let a = inside .before .before .args in
     rw (c .before .both2 .ensures) at (c .both3 .ensures)
-    ∙ inside-fit _ _ _ _ _ (rw (inside .before .is-allowed .ensures) at (inside .both .ensures))
+    ∙ inside-fit (a .code) (a .n) (a .bytes) (a .drawn) (a .finished) (a .hash)
+    (rw (inside .before .is-allowed .ensures) at (inside .both .ensures))
     (c .before .before .before .if1 .taken) (c .before .before .state-words .ensures)
 
 returns-2 : tie.Need-returns-2
 returns-2 c =
-    outside-unfit _ _ _ _ _ (rw (c .before .before .is-allowed .ensures) at (c .before .both .ensures)) (c .if1 .left)
+    let a = c .before .before .before .args in
+    outside-unfit (a .code) (a .n) (a .bytes) (a .drawn) (a .finished) (a .hash)
+    (rw (c .before .before .is-allowed .ensures) at (c .before .both .ensures)) (c .if1 .left)
 
 pub is-fit-spec : {M : Type 1} → statement M
 is-fit-spec =

@@ -9,12 +9,12 @@ use Rattle.counts.proofs.key_draws.Tie as tie
 mul-result : tie.Need-mul-result-2
 mul-result c =
     let s = c .before in
-    record { fits = omega (arith, key-product (s .args .n) (s .args .key) (s .pre .0) (s .pre .1)) }
+    record { fits = omega (arith, key-product (s .args .code) (s .args .n) (s .args .key) (s .pre .0) (s .pre .1)) }
 
 add-result : tie.Need-add-result
 add-result c =
     let s = c .before .before in
-    let sum = key-sum (s .args .n) (s .args .key) (s .pre .0) (s .pre .1) _ _ (c .compressions-words .ensures) in
+    let sum = key-sum (s .args .code) (s .args .n) (s .args .key) (s .pre .0) (s .pre .1) _ _ (c .compressions-words .ensures) in
     record { fits = sum (omega (arith, s .pre .1)) }
 
 pub key-draws-spec : {M : Type 1} → statement M

@@ -2,7 +2,7 @@
 use mathlib.Core.Path.{refl, sym, _∙_}
 use native.Mathlib.Omega.{arith}
 use borrow.Author.Needs.{needs}
-use Rattle.rules.specs.Counts.{sha1}
+use Rattle.rules.specs.Counts.{hashOf}
 use Rattle.rules.proofs.Allowed.{in-bounds}
 use Rattle.rules.proofs.Streaming.{state-count}
 use Rattle.counts.proofs.state_words.Statement.{statement}
@@ -11,4 +11,4 @@ use Rattle.counts.proofs.state_words.Tie as tie
 pub state-words-spec : {M : Type 1} → statement M
 state-words-spec =
     tie.close (tie.spec (λ c. search needs) (λ c κs. (omega arith, search in-bounds))
-    (λ c. c .compressions-words .ensures ∙ sym (state-count (sha1 32) _ _ refl)))
+    (λ c. c .compressions-words .ensures ∙ sym (state-count (hashOf 32 (c .before .args .code)) _ _ refl)))
