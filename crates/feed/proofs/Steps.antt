@@ -8,19 +8,20 @@ use lib.ListN.{length, getD, set, take, drop, replicate, length-append, length-d
 use lib.ListN.{List·getD-append}
 use lib.Seq.{take-at, take-all, drop-drop, getD-append-add, getD-take, getD-drop, length-take-le}
 use Rattle.words.proofs.Stores.{filled-next, filled-end, zeros-after}
-use Rattle.rules.specs.declared.Chain.{Chain}
+use Rattle.rules.specs.declared.Sha256Chain.{Sha256Chain}
 use Rattle.rules.specs.declared.State.{State}
 use Rattle.rules.specs.Numbers.{longestMessage}
 use Rattle.rules.specs.Hash.{wordsOf, ending, filled}
 use Rattle.rules.specs.Standard.{SHA1}
-use Rattle.rules.specs.Sha1.{publics, chainRoom, used}
+use Rattle.rules.specs.Sha1.{publics}
+use Rattle.rules.specs.Hmac.{used}
 use Rattle.rules.specs.Counts.{stateDraws}
-use Rattle.rules.specs.Stream.{state, fullBlocks, feed}
+use Rattle.rules.specs.Stream.{stateRoom, state, fullBlocks, feed}
 use Rattle.rules.proofs.Loops.{Run}
 use Rattle.rules.proofs.Bytes.{length-words, words-front}
 use Rattle.rules.proofs.Hashes.{ending-front}
-use Rattle.rules.proofs.Tags.{sha1-proper}
-use Rattle.hash.specs.Hash.{hash}
+use Rattle.rules.proofs.Tags.{hash-proper}
+use Rattle.hash.specs.Hash.{hash, standard}
 
 -- ---- the bytes that wait and then the piece
 module _ (tail piece : List ℕ) where
@@ -59,42 +60,42 @@ full-words text h =
     let size : length block ≡ 64 = length-take-le 64 text h in
     let W = wordsOf 4 16 block in
     ap (λ t. take 16 (ending (SHA1 32) 0 t)) (sym (append-nil block))
-    ∙ ap (take 16) (ending-front (SHA1 32) (sha1-proper 32) 1 0 block [] size)
+    ∙ ap (take 16) (ending-front (SHA1 32) (hash-proper 32 0) 1 0 block [] size)
     ∙ take-at W _ 16 (length-words 4 16 block)
     ∙ sym (words-front 4 16 block (drop 64 text) (omega (arith, size)))
     ∙ ap (wordsOf 4 16) (take-append-drop 64 text)
 
-pub full-made : (n : ℕ) (h tail piece bytes b ws : List ℕ) (j at : ℕ) {o : Run}
+pub full-made : (code n : ℕ) (h tail piece bytes b ws : List ℕ) (j at : ℕ) {o : Run}
     → 64 * j + 64 ≤ length tail + length piece
-    → bytes ≡ take 64 (drop (64 * j) (tail ++ piece)) → hash .compress n h b ws at ≡ o
-    → b ≡ publics n (take 16 (drop (16 * 0) (ending (hash .standard) 0 bytes)))
-    → hash .compress n h (publics n (wordsOf 4 16 (drop (64 * j) (tail ++ piece)))) ws at ≡ o
-full-made n h tail piece bytes b ws j at room e f made =
+    → bytes ≡ take 64 (drop (64 * j) (tail ++ piece)) → hash code .compress n h b ws at ≡ o
+    → b ≡ publics n (take 16 (drop (16 * 0) (ending (SHA1 32) 0 bytes)))
+    → hash code .compress n h (publics n (wordsOf 4 16 (drop (64 * j) (tail ++ piece)))) ws at ≡ o
+full-made code n h tail piece bytes b ws j at room e f made =
     let text = tail ++ piece in
     let long : 64 ≤ length (drop (64 * j) text) =
     rw (length-drop (64 * j) text, length-append tail piece) (omega arith) in
     rw (← full-words (drop (64 * j) text) long, ← e, ← made) f
 
 -- ---- the full blocks, one after the other: j of them done
-module _ (n : ℕ) (ws text : List ℕ) (count : ℕ) (e : Run) where
-  pub full-begin : (m p : ℕ) (g : List ℕ) → count ≡ m → fullBlocks hash n (count - 0) text g ws p
-      ≡ fullBlocks hash n m text g ws p
+module _ (code n : ℕ) (ws text : List ℕ) (count : ℕ) (e : Run) where
+  pub full-begin : (m p : ℕ) (g : List ℕ) → count ≡ m → fullBlocks (hash code) n (count - 0) text g ws p
+      ≡ fullBlocks (hash code) n m text g ws p
   full-begin m p g f = rw (f, sub-zero m)
 
   pub full-next : (j p q : ℕ) (g g1 : List ℕ) → j < count
-      → hash .compress n g (publics n (wordsOf 4 16 (drop (64 * j) text))) ws p ≡ (g1, q)
-      → fullBlocks hash n (count - j) (drop (64 * j) text) g ws p ≡ e
-      → fullBlocks hash n (count - (j + 1)) (drop (64 * (j + 1)) text) g1 ws q ≡ e
+      → hash code .compress n g (publics n (wordsOf 4 16 (drop (64 * j) text))) ws p ≡ (g1, q)
+      → fullBlocks (hash code) n (count - j) (drop (64 * j) text) g ws p ≡ e
+      → fullBlocks (hash code) n (count - (j + 1)) (drop (64 * (j + 1)) text) g1 ws q ≡ e
   unfolding fullBlocks
   full-next j p q g g1 l f inv =
       let m : count - j ≡ suc (count - (j + 1)) = omega arith in
       let place : 64 * j + 64 ≡ 64 * (j + 1) = omega arith in
       let rest : drop 64 (drop (64 * j) text) ≡ drop (64 * (j + 1)) text = drop-drop 64 (64 * j) text
       ∙ ap (λ t. drop t text) place in
-      rw (← rest) (sym (ap (λ (r : Run). fullBlocks hash n (count - (j + 1)) (drop 64 (drop (64 * j) text)) (r .0) ws
+      rw (← rest) (sym (ap (λ (r : Run). fullBlocks (hash code) n (count - (j + 1)) (drop 64 (drop (64 * j) text)) (r .0) ws
       (r .1)) f) ∙ (rw m at inv))
 
-  pub full-end : (j p : ℕ) (g : List ℕ) → count ≤ j → fullBlocks hash n (count - j) (drop (64 * j) text) g ws p ≡ e → e
+  pub full-end : (j p : ℕ) (g : List ℕ) → count ≤ j → fullBlocks (hash code) n (count - j) (drop (64 * j) text) g ws p ≡ e → e
       ≡ (g, p)
   unfolding fullBlocks
   full-end j p g l inv = let m : count - j ≡ 0 = omega arith in sym (rw m at inv)
@@ -131,23 +132,23 @@ module _ (tail piece z : List ℕ) where
       e ∙ ap₂ (λ l t. take l (drop t (tail ++ piece))) room place ∙ take-all left rest (omega (arith, over)) in
       rw (last, over, zeros-after 64 left (omega arith))
 
-pub feed-made : (s : State) (piece ws tail rest : List ℕ) (at p : ℕ) (inner : Chain) (r : State)
+pub feed-made : (code : ℕ) (s : State) (piece ws tail rest : List ℕ) (at p : ℕ) (inner : Sha256Chain) (r : State)
     → tail ≡ take (s .bytes % 64) (s .tail)
-    → fullBlocks hash (s .n) ((length tail + length piece) / 64) (tail ++ piece)
-    (used (s .n) (s .inner .shares)) ws at
-    ≡ (used (s .n) (inner .shares), p)
+    → fullBlocks (hash code) (s .n) ((length tail + length piece) / 64) (tail ++ piece)
+    (used (standard code) (s .n) (s .inner .shares)) ws at
+    ≡ (used (standard code) (s .n) (inner .shares), p)
     → rest ≡ filled 64 (drop ((length tail + length piece) / 64 * 64) (tail ++ piece))
     → r ≡ record {
       n = s .n;
       bytes = s .bytes + length piece;
-      drawn = stateDraws hash (s .n) (s .bytes + length piece);
+      drawn = stateDraws (hash code) (s .n) (s .bytes + length piece);
       finished = 0;
-      hash = hash .code;
-      inner = record { shares = filled chainRoom (used (s .n) (inner .shares)) };
-      outer = record { shares = filled chainRoom (used (s .n) (s .outer .shares)) };
+      hash = code;
+      inner = record { shares = filled stateRoom (used (standard code) (s .n) (inner .shares)) };
+      outer = record { shares = filled stateRoom (used (standard code) (s .n) (s .outer .shares)) };
       tail = rest;
     }
-    → feed hash s piece ws at ≡ (r, p)
+    → feed (hash code) s piece ws at ≡ (r, p)
 unfolding feed state used
-feed-made s piece ws tail rest at p inner r waits full ends is =
+feed-made code s piece ws tail rest at p inner r waits full ends is =
     rw (is, ← waits, length-append tail piece, full, ends)

@@ -6,19 +6,20 @@ ghost use Prim.Native.Nat.{_+_, _*_, _/_, _≤_, _<_};
 ghost use lib.ListN.{length, getD, take, drop};
 ghost use Rattle.rules.specs.Numbers.{largest, longestMessage};
 ghost use Rattle.rules.specs.Hash.{wordsOf, filled};
-ghost use Rattle.rules.specs.Sha1.{publics, used};
+ghost use Rattle.rules.specs.Sha1.{publics};
+ghost use Rattle.rules.specs.Hmac.{used};
 ghost use Rattle.rules.specs.Counts.{feedDraws};
 ghost use Rattle.rules.specs.Stream.{fullBlocks, feed, streamed, feedCall, fedAnswer};
-ghost use Rattle.hash.specs.Hash.{hash};
+ghost use Rattle.hash.specs.Hash.{hash, standard};
 ghost use Rattle.padding.specs.Whole.{Hashable};
+use hash::Stepped;
 use numbers::DONE;
 use rules::BLOCK;
 use rules::BLOCK_BYTES;
 use rules::BLOCK_WORDS;
-use rules::Chain;
 use rules::Fed;
+use rules::Sha256Chain;
 use rules::State;
-use sha1::Stepped;
 use states::Moved;
 use states::state_of;
 use states::waiting;
@@ -50,8 +51,9 @@ fn gather(tail: &[u8], piece: &[u8], p: usize, z: &mut [u8])
 
 // Block j of the bytes that wait and then the piece into a chain, from the word at `at` on. `block` is room for one.
 fn full_block(
+    code: u32,
     n: usize,
-    chain: Chain,
+    chain: Sha256Chain,
     tail: &[u8],
     piece: &[u8],
     j: usize,
@@ -60,33 +62,34 @@ fn full_block(
     at: usize,
 ) -> Stepped
     requires { ⌜ (0 < n) × (n ≤ largest) × (64 * j + 64 ≤ length (now tail) + length (now piece))
-        × (length (now block) ≡ 16 * n) × (at + hash .draws n ≤ length (now words)) ⌝ }
-    ensures { λ r. ⌜ (hash .compress n (used n (chain .shares))
+        × (length (now block) ≡ 16 * n) × (at + hash code .draws n ≤ length (now words)) ⌝ }
+    ensures { λ r. ⌜ (hash code .compress n (used (standard code) n (chain .shares))
         (publics n (wordsOf 4 16 (drop (64 * j) (now (tail .entry) ++ now (piece .entry))))) (now (words .entry)) at
-        ≡ (used n (r .chain .shares), r .at))
-        × (r .at ≡ at + hash .draws n) ⌝ }
+        ≡ (used (standard code) n (r .chain .shares), r .at))
+        × (r .at ≡ at + hash code .draws n) ⌝ }
 {
     let mut bytes = [0u8; BLOCK_BYTES];
     gather(tail, piece, BLOCK_BYTES * j, &mut bytes);
     hmac::public_block(n, 0, &bytes, 0, block);
-    hash::compress(n, chain, block, words, at)
+    hash::compress(code, n, chain, block, words, at)
 }
 
 // Every full block of the bytes that wait and then the piece into a chain, in order, from the word at `at` on.
 fn full_blocks(
+    code: u32,
     n: usize,
-    chain: Chain,
+    chain: Sha256Chain,
     tail: &[u8],
     piece: &[u8],
     words: &[u32],
     at: usize,
 ) -> Stepped
     requires { ⌜ (0 < n) × (n ≤ largest) × Hashable (length (now tail) + length (now piece))
-        × (at + (length (now tail) + length (now piece)) / 64 * hash .draws n ≤ length (now words)) ⌝ }
-    ensures { λ r. ⌜ (fullBlocks hash n ((length (now (tail .entry)) + length (now (piece .entry))) / 64)
-        (now (tail .entry) ++ now (piece .entry)) (used n (chain .shares)) (now (words .entry)) at
-        ≡ (used n (r .chain .shares), r .at))
-        × (r .at ≡ at + (length (now (tail .entry)) + length (now (piece .entry))) / 64 * hash .draws n) ⌝ }
+        × (at + (length (now tail) + length (now piece)) / 64 * hash code .draws n ≤ length (now words)) ⌝ }
+    ensures { λ r. ⌜ (fullBlocks (hash code) n ((length (now (tail .entry)) + length (now (piece .entry))) / 64)
+        (now (tail .entry) ++ now (piece .entry)) (used (standard code) n (chain .shares)) (now (words .entry)) at
+        ≡ (used (standard code) n (r .chain .shares), r .at))
+        × (r .at ≡ at + (length (now (tail .entry)) + length (now (piece .entry))) / 64 * hash code .draws n) ⌝ }
 {
     let end = BLOCK_WORDS * n;
     let mut block0 = [0u32; BLOCK];
@@ -96,7 +99,7 @@ fn full_blocks(
     let mut p = at;
     let mut j = 0;
     while j < count {
-        let next = full_block(n, c, tail, piece, j, block, words, p);
+        let next = full_block(code, n, c, tail, piece, j, block, words, p);
         c = next.chain;
         p = next.at;
         j += 1;
@@ -119,19 +122,19 @@ fn rest_of(tail: &[u8], piece: &[u8]) -> [u8; BLOCK_BYTES]
 }
 
 // The state after a piece, from the word at `at` on.
-fn feed_at(state: State, piece: &[u8], words: &[u32], at: usize) -> Moved
+fn feed_at(code: u32, state: State, piece: &[u8], words: &[u32], at: usize) -> Moved
     requires { ⌜ (0 < state .n) × (state .n ≤ largest) × (state .bytes + length (now piece) ≤ longestMessage)
-        × (at + feedDraws hash (state .n) (state .bytes) (length (now piece)) ≤ length (now words)) ⌝ }
-    ensures { λ r. ⌜ (feed hash state (now (piece .entry)) (now (words .entry)) at ≡ (r .state, r .at))
-        × (r .at ≡ at + feedDraws hash (state .n) (state .bytes) (length (now (piece .entry)))) ⌝ }
+        × (at + feedDraws (hash code) (state .n) (state .bytes) (length (now piece)) ≤ length (now words)) ⌝ }
+    ensures { λ r. ⌜ (feed (hash code) state (now (piece .entry)) (now (words .entry)) at ≡ (r .state, r .at))
+        × (r .at ≡ at + feedDraws (hash code) (state .n) (state .bytes) (length (now (piece .entry)))) ⌝ }
 {
     let all = state.tail;
     let tail = waiting(&all, state.bytes);
-    let made = full_blocks(state.n, state.inner, tail, piece, words, at);
+    let made = full_blocks(code, state.n, state.inner, tail, piece, words, at);
     let rest = rest_of(tail, piece);
     let after = state.bytes + piece.len();
     Moved {
-        state: state_of(state.n, after, made.chain, state.outer, rest),
+        state: state_of(code, state.n, after, made.chain, state.outer, rest),
         at: made.at,
     }
 }
@@ -143,11 +146,12 @@ pub struct Feeding {
 }
 
 // A piece of any length fed to any state, with any words lent.
-pub fn feed(state: State, piece: &[u8], words: &[u32]) -> Feeding
-    ensures { λ r. ⌜ feedCall hash state (now (piece .entry)) (now (words .entry))
+pub fn feed(code: u32, state: State, piece: &[u8], words: &[u32]) -> Feeding
+    ensures { λ r. ⌜ feedCall (hash code) state (now (piece .entry)) (now (words .entry))
         ≡ streamed (fedAnswer (r .fed)) (r .state) ⌝ }
 {
     let need = counts::feed_words(
+        code,
         state.n,
         state.bytes,
         state.drawn,
@@ -162,7 +166,7 @@ pub fn feed(state: State, piece: &[u8], words: &[u32]) -> Feeding
             state: state,
         };
     }
-    let made = feed_at(state, piece, words, 0);
+    let made = feed_at(code, state, piece, words, 0);
     let next = made.state;
     Feeding {
         fed: Fed::Taken(made.at),

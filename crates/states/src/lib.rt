@@ -3,45 +3,46 @@ ghost use mathlib.Core.Path.{_≡_};
 ghost use Prim.Native.Nat.{_%_, _≤_, _<_};
 ghost use lib.ListN.{length, take};
 ghost use Rattle.rules.specs.Numbers.{largest, longestMessage};
-ghost use Rattle.rules.specs.Sha1.{chainRoom, used};
 ghost use Rattle.rules.specs.Hash.{filled};
-ghost use Rattle.rules.specs.Counts.{stateDraws, sha1};
-ghost use Rattle.rules.specs.Stream.{stateOfZeros, closed};
+ghost use Rattle.rules.specs.Hmac.{used};
+ghost use Rattle.rules.specs.Counts.{stateDraws};
+ghost use Rattle.rules.specs.Stream.{stateRoom, stateOfZeros, closed};
+ghost use Rattle.hash.specs.Hash.{hash, standard};
 use counts::state_words;
 use rules::BLOCK_BYTES;
-use rules::CHAIN;
-use rules::Chain;
-use rules::SHA1;
+use rules::SHA256_CHAIN;
+use rules::Sha256Chain;
 use rules::State;
 
 // A state made anew, of a tail that has 0 in its unfilled bytes.
 pub fn state_of(
+    code: u32,
     n: usize,
     bytes: usize,
-    inner: Chain,
-    outer: Chain,
+    inner: Sha256Chain,
+    outer: Sha256Chain,
     tail: [u8; BLOCK_BYTES],
 ) -> State
     requires { ⌜ (0 < n) × (n ≤ largest) × (bytes ≤ longestMessage) ⌝ }
     ensures { λ r. ⌜ r ≡ record {
       n = n;
       bytes = bytes;
-      drawn = stateDraws (sha1 32) n bytes;
+      drawn = stateDraws (hash code) n bytes;
       finished = 0;
-      hash = sha1 32 .code;
-      inner = record { shares = filled chainRoom (used n (inner .shares)) };
-      outer = record { shares = filled chainRoom (used n (outer .shares)) };
+      hash = code;
+      inner = record { shares = filled stateRoom (used (standard code) n (inner .shares)) };
+      outer = record { shares = filled stateRoom (used (standard code) n (outer .shares)) };
       tail = tail;
     } ⌝ }
 {
     State {
         n: n,
         bytes: bytes,
-        drawn: state_words(n, bytes),
+        drawn: state_words(code, n, bytes),
         finished: 0,
-        hash: SHA1,
-        inner: sha1::cleared(n, inner),
-        outer: sha1::cleared(n, outer),
+        hash: code,
+        inner: hash::cleared(code, n, inner),
+        outer: hash::cleared(code, n, outer),
         tail: tail,
     }
 }
@@ -50,8 +51,8 @@ pub fn state_of(
 pub fn zeros() -> State
     ensures { λ r. ⌜ r ≡ stateOfZeros ⌝ }
 {
-    let none = Chain {
-        shares: [0u32; CHAIN],
+    let none = Sha256Chain {
+        shares: [0u32; SHA256_CHAIN],
     };
     State {
         n: 0,
