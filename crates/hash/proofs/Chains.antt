@@ -11,7 +11,7 @@ use lib.Seq.{length-take-le, take-at, drop-at}
 use Rattle.rules.specs.declared.Sha256Chain.{Sha256Chain}
 use Rattle.rules.specs.Numbers.{largest}
 use Rattle.rules.specs.Shares.{add}
-use Rattle.rules.specs.Hash.{chainWords, digestBytes, filled}
+use Rattle.rules.specs.Hash.{chainWords, filled}
 use Rattle.rules.specs.Standard.{SHA1}
 use Rattle.rules.specs.Standard256.{SHA256}
 use Rattle.rules.specs.Sha1.{publics, compress}
@@ -78,9 +78,6 @@ module _ (code n d : ℕ) (e : hash code .draws n ≡ d) where
 
   pub place-from : (at p : ℕ) → p ≡ at + d → p ≡ at + hash code .draws n
   place-from at p f = rw e f
-
-pub size-of : (code m : ℕ) → m ≡ chainWords (standard code) → m * 4 ≡ digestBytes (standard code)
-size-of code m e = rw e
 
 -- ---- chain_end
 module _ (n m : ℕ) (few : m ≤ 8) (low : n ≤ largest) where

@@ -6,7 +6,7 @@ ghost use Prim.Native.Nat.{_+_, _-_, _*_, _≤_, _<_};
 ghost use lib.Bits.{bitXor};
 ghost use lib.ListN.{length, getD, set, take, replicate};
 ghost use Rattle.rules.specs.Numbers.{largest};
-ghost use Rattle.rules.specs.Hash.{chainWords, digestBytes, filled};
+ghost use Rattle.rules.specs.Hash.{chainWords, filled};
 ghost use Rattle.rules.specs.Sha1.{publics};
 ghost use Rattle.rules.specs.Hmac.{chainRoom, used, marked};
 ghost use Rattle.rules.specs.Calls.{compressed};
@@ -20,7 +20,6 @@ use rules::SHA1;
 use rules::SHA256_CHAIN;
 use rules::SHA256_CHAIN_WORDS;
 use rules::Sha256Chain;
-use rules::WORD_BYTES;
 
 // ---- public words
 
@@ -72,13 +71,6 @@ pub fn chain_end(code: u32, n: usize) -> usize
     ensures { λ r. ⌜ (r ≡ chainWords (standard code) * n) × (r ≤ 8 * n) ⌝ }
 {
     chain_words(code) * n
-}
-
-// The bytes of a tag.
-pub fn tag_size(code: u32) -> usize
-    ensures { λ r. ⌜ r ≡ digestBytes (standard code) ⌝ }
-{
-    chain_words(code) * WORD_BYTES
 }
 
 // The starting chain, as public words.

@@ -7,6 +7,8 @@ use native.Mathlib.Omega.{arith}
 use lib.Dec.{leb}
 use borrow.Author.Tests.{leb-true, leb-false, le-leb, lt-leb}
 use Rattle.rules.specs.Numbers.{Test, first}
+use Rattle.rules.specs.Hash.{digestBytes}
+use Rattle.rules.specs.Counts.{standardOf}
 use Rattle.numbers.specs.Tests.{after}
 
 -- ---- tests one after the other give what their list gives
@@ -34,3 +36,11 @@ grown bytes piece longest h = go (leb piece (longest - bytes)) refl
     go : (t : Bool) → leb piece (longest - bytes) ≡ t → t ≡ leb (bytes + piece) longest
     go true e = sym (le-leb (bytes + piece) longest (omega (arith, leb-true piece (longest - bytes) e)))
     go false e = sym (lt-leb (bytes + piece) longest (omega (arith, leb-false piece (longest - bytes) e)))
+
+-- ---- the bytes of a tag
+pub sha1-tag : (code : ℕ) → code ≡ 0 → 20 ≡ digestBytes (standardOf 32 code)
+sha1-tag code e = rw e
+
+pub sha256-tag : (code : ℕ) → (code ≡ 0 → ⊥) → 32 ≡ digestBytes (standardOf 32 code)
+sha256-tag zero h = absurd (h refl)
+sha256-tag (suc code) h = refl

@@ -4,7 +4,4 @@ use Rattle.numbers.proofs.finishing.Statement.{statement}
 use Rattle.numbers.proofs.finishing.Tie as tie
 
 pub finishing-spec : {M : Type 1} → statement M
-finishing-spec =
-    tie.close
-    (tie.spec (λ c κs. search needs) (λ c κs. search needs)
-    (λ c. rw (c .before .before .tested .ensures) at (c .tested2 .ensures)))
+finishing-spec = tie.close (tie.spec (λ c κs. search needs) (λ c κs. search needs) (λ c κs. search needs) (λ c. cc))

@@ -1,9 +1,9 @@
 -- the answer, taken apart
 use mathlib.Core.Path.{sym, _∙_}
 use borrow.Author.Needs.{needs}
-use Rattle.flamivorse.proofs.Taken.{refused-draws}
-use Rattle.flamivorse.proofs.flamivorse_hmac_sha1_feed.Statement.{statement}
-use Rattle.flamivorse.proofs.flamivorse_hmac_sha1_feed.Tie as tie
+use Rattle.calls.proofs.Taken.{refused-draws}
+use Rattle.calls.proofs.feed.Statement.{statement}
+use Rattle.calls.proofs.feed.Tie as tie
 
 returns : tie.Need-returns
 returns c =
@@ -16,7 +16,7 @@ returns-2 c =
     rw (c .before .before .fed .given .1) at (c .before .before .before .before .before .feed .ensures)
     ∙ sym (c .streamed2 .ensures)
 
-pub flamivorse-hmac-sha1-feed-spec : {M : Type 1} → statement M
-flamivorse-hmac-sha1-feed-spec =
+pub feed-spec : {M : Type 1} → statement M
+feed-spec =
     tie.close (tie.spec (λ c κs. search needs) (λ c. search needs) (λ c. search needs) (λ c κs. search needs)
     (λ c κs. search needs) returns (λ c κs. search needs) returns-2)

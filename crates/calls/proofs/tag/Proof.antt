@@ -3,8 +3,8 @@ use borrow.Author.Needs.{needs}
 use borrow.Author.Tests.{eqb-true}
 use Rattle.rules.proofs.Calls.{refused, done}
 use Rattle.rules.proofs.Tested.{tag-ready, short-text, hmacTag-needs}
-use Rattle.flamivorse.proofs.flamivorse_hmac_sha1.Statement.{statement}
-use Rattle.flamivorse.proofs.flamivorse_hmac_sha1.Tie as tie
+use Rattle.calls.proofs.tag.Statement.{statement}
+use Rattle.calls.proofs.tag.Tie as tie
 
 hmac-tag-requires : tie.Need-hmac-tag-requires
 hmac-tag-requires c κs =
@@ -12,8 +12,8 @@ hmac-tag-requires c κs =
     let p = tag-ready told (c .before .before .tagging .ensures) (c .before .if1 .left) in
     search (eqb-true, short-text, needs)
 
-pub flamivorse-hmac-sha1-spec : {M : Type 1} → statement M
-flamivorse-hmac-sha1-spec =
+pub tag-spec : {M : Type 1} → statement M
+tag-spec =
     tie.close
     (tie.spec (λ c κs. search needs) (λ c κs. search needs) (λ c κs. search needs)
     (λ c. search (refused, hmacTag-needs)) hmac-tag-requires (λ c κs. search needs) (λ c. search needs)

@@ -3,13 +3,14 @@ use mathlib.Core.Path.{sym, _∙_}
 use borrow.Author.Needs.{needs}
 use Rattle.rules.proofs.Tested.{block-ready}
 use Rattle.rules.proofs.StreamCalls.{start-refused, start-done}
-use Rattle.flamivorse.proofs.flamivorse_hmac_sha1_start.Statement.{statement}
-use Rattle.flamivorse.proofs.flamivorse_hmac_sha1_start.Tie as tie
+use Rattle.calls.proofs.start.Statement.{statement}
+use Rattle.calls.proofs.start.Tie as tie
 
 returns : tie.Need-returns
 returns c =
     let before = c .before .before .before .before in
-    start-refused _ _ _ _ _ (before .start-words .ensures) (c .before .before .before .compressing .ensures)
+    let a = before .before .before .before .args in
+    start-refused (a .code) (a .n) (a .key .now) (a .words .now) _ _ (before .start-words .ensures) (c .before .before .before .compressing .ensures)
     (c .before .before .if1 .taken)
     ∙ sym (rw (c .before .zeros .ensures) at (c .streamed .ensures))
 
@@ -21,12 +22,13 @@ start-at-requires c κs =
 returns-2 : tie.Need-returns-2
 returns-2 c =
     let before = c .before .before .before .before in
-    start-done _ _ _ _ _ (before .before .start-words .ensures) (before .compressing .ensures)
+    let a = before .before .before .before .before .args in
+    start-done (a .code) (a .n) (a .key .now) (a .words .now) _ _ (before .before .start-words .ensures) (before .compressing .ensures)
     (c .before .before .before .if1 .left)
     _ _ (c .before .before .start-at .ensures)
     ∙ sym (c .streamed2 .ensures)
 
-pub flamivorse-hmac-sha1-start-spec : {M : Type 1} → statement M
-flamivorse-hmac-sha1-start-spec =
+pub start-spec : {M : Type 1} → statement M
+start-spec =
     tie.close (tie.spec (λ c κs. search needs) (λ c κs. search needs) (λ c κs. search needs)
     (λ c κs. search needs) returns start-at-requires (λ c κs. search needs) returns-2)
