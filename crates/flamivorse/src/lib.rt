@@ -7,7 +7,7 @@ ghost use Rattle.rules.specs.Calls.{splitWords, refreshWords, expandWords, andW
 ghost use Rattle.rules.specs.Calls.{b2aShortWords};
 ghost use Rattle.rules.specs.Calls.{splitKeyCall, compressCall, hmacCall, splitKeyWords, compressWords, hmacWords};
 ghost use Rattle.rules.specs.Stream.{startCall, feedCall, finishCall, startWords, feedWords, finishWords};
-ghost use Rattle.rules.specs.Counts.{sha1};
+ghost use Rattle.rules.specs.Counts.{sha1, sha256};
 use counts::a2b_words;
 use counts::add_words;
 use counts::and_words;
@@ -24,21 +24,20 @@ use counts::split_words;
 use counts::start_words;
 use numbers::DONE;
 use numbers::answer;
-use numbers::compressing;
-use numbers::finishing;
-use numbers::key_splitting;
 use numbers::one_input;
 use numbers::opening;
 use numbers::short_input;
 use numbers::splitting;
-use numbers::tagging;
 use numbers::two_inputs;
 use numbers::widening;
 use rules::Answer;
 use rules::Chain;
 use rules::Compressed;
-use rules::Fed;
 use rules::Opened;
+use rules::SHA1;
+use rules::SHA256;
+use rules::Sha256Chain;
+use rules::Sha256Compressed;
 use rules::State;
 use rules::Streamed;
 
@@ -238,7 +237,7 @@ pub extern "C" fn flamivorse_b2a_short(n: usize, x: &[u32], a: &mut [u32], words
 
 // ---- SHA-1 and HMAC
 
-// A key of at most 1,024 bytes into shares: 16n words. One over 64 bytes is hashed, in shares.
+// A key of at most 1,024 bytes into shares: 16n words. One over 64 bytes is hashed by SHA-1, in shares.
 #[no_mangle]
 pub extern "C" fn flamivorse_split_key(
     n: usize,
@@ -246,15 +245,10 @@ pub extern "C" fn flamivorse_split_key(
     shares: &mut [u32],
     words: &[u32],
 ) -> Answer
-    ensures { λ r. ⌜ splitKeyCall 32 n (now (key .entry)) (now (shares .entry)) (now (words .entry))
+    ensures { λ r. ⌜ splitKeyCall (sha1 32) n (now (key .entry)) (now (shares .entry)) (now (words .entry))
         ≡ (r, now (shares .exit)) ⌝ }
 {
-    let need = key_words(n, key.len()).drawn;
-    let number = key_splitting(n, shares.len(), key.len(), need, words.len());
-    if number != DONE {
-        return answer(number, 0);
-    }
-    answer(DONE, keys::split_key(n, key, shares, words, 0))
+    calls::split_key(SHA1, n, key, shares, words)
 }
 
 // One compression of a block of 16n words in shares into a chain.
@@ -265,23 +259,15 @@ pub extern "C" fn flamivorse_sha1_compress(
     block: &[u32],
     words: &[u32],
 ) -> Compressed
-    ensures { λ r. ⌜ compressCall 32 n chain (now (block .entry)) (now (words .entry)) ≡ r ⌝ }
+    ensures { λ r. ⌜ compressCall (sha1 32) n (chain .shares) (now (block .entry)) (now (words .entry))
+        ≡ (record { number = r .number; drawn = r .drawn }, r .chain .shares) ⌝ }
 {
-    let need = compress_words(n).drawn;
-    let number = compressing(n, block.len(), need, words.len());
-    if number != DONE {
-        return Compressed {
-            number: number,
-            drawn: 0,
-            chain: chain,
-        };
-    }
-    let made = sha1::compress_copy(n, chain, block, words, 0);
-    let next = made.chain;
+    let mut all = chain.shares;
+    let made = calls::compress(SHA1, n, &mut all, block, words);
     Compressed {
-        number: DONE,
-        drawn: made.at,
-        chain: next,
+        number: made.number,
+        drawn: made.drawn,
+        chain: Chain { shares: all },
     }
 }
 
@@ -294,28 +280,10 @@ pub extern "C" fn flamivorse_hmac_sha1(
     tag: &mut [u8],
     words: &[u32],
 ) -> Answer
-    ensures { λ r. ⌜ hmacCall 32 n (now (key .entry)) (now (message .entry)) (now (tag .entry)) (now (words .entry))
+    ensures { λ r. ⌜ hmacCall (sha1 32) n (now (key .entry)) (now (message .entry)) (now (tag .entry)) (now (words .entry))
         ≡ (r, now (tag .exit)) ⌝ }
 {
-    let need = hmac_words(n, message.len()).drawn;
-    let number = tagging(n, key.len(), tag.len(), message.len(), need, words.len());
-    if number != DONE {
-        return answer(number, 0);
-    }
-    answer(DONE, hmac::hmac_tag(n, key, message, tag, words, 0))
-}
-
-// ---- streaming
-
-// What a call on a state hands back.
-fn streamed(number: u32, drawn: usize, state: State) -> Streamed
-    ensures { λ r. ⌜ r ≡ record { number = number; drawn = drawn; state = state } ⌝ }
-{
-    Streamed {
-        number: number,
-        drawn: drawn,
-        state: state,
-    }
+    calls::tag(SHA1, n, key, message, tag, words)
 }
 
 // The state that a message starts from, under a key in shares.
@@ -323,14 +291,7 @@ fn streamed(number: u32, drawn: usize, state: State) -> Streamed
 pub extern "C" fn flamivorse_hmac_sha1_start(n: usize, key: &[u32], words: &[u32]) -> Streamed
     ensures { λ r. ⌜ startCall (sha1 32) n (now (key .entry)) (now (words .entry)) ≡ r ⌝ }
 {
-    let need = start_words(n).drawn;
-    let number = compressing(n, key.len(), need, words.len());
-    if number != DONE {
-        return streamed(number, 0, states::zeros());
-    }
-    let made = stream::start_at(n, key, words, 0);
-    let next = made.state;
-    streamed(DONE, made.at, next)
+    calls::start(SHA1, n, key, words)
 }
 
 // A state with one more piece of the message.
@@ -338,13 +299,7 @@ pub extern "C" fn flamivorse_hmac_sha1_start(n: usize, key: &[u32], words: &[u32
 pub extern "C" fn flamivorse_hmac_sha1_feed(state: State, piece: &[u8], words: &[u32]) -> Streamed
     ensures { λ r. ⌜ feedCall (sha1 32) state (now (piece .entry)) (now (words .entry)) ≡ r ⌝ }
 {
-    let made = feed::feed(state, piece, words);
-    let fed = made.fed;
-    let next = made.state;
-    let Fed::Taken(drawn) = fed else {
-        return streamed(feed::refusal(fed), 0, next);
-    };
-    streamed(DONE, drawn, next)
+    calls::feed(SHA1, state, piece, words)
 }
 
 // The tag of what was fed to a state.
@@ -356,24 +311,86 @@ pub extern "C" fn flamivorse_hmac_sha1_finish(
 ) -> Streamed
     ensures { λ r. ⌜ finishCall (sha1 32) state (now (tag .entry)) (now (words .entry)) ≡ (r, now (tag .exit)) ⌝ }
 {
-    let need = finish_words(
-        state.n,
-        state.bytes,
-        state.drawn,
-        state.finished,
-        state.hash,
-    );
-    let number = finishing(need, tag.len(), words.len());
-    if number != DONE {
-        // Written out: beside one call more, `search` no longer gets to the sizes of the state.
-        return Streamed {
-            number: number,
-            drawn: 0,
-            state: state,
-        };
+    calls::finish(SHA1, state, tag, words)
+}
+
+// ---- SHA-256 and HMAC
+
+// A key of at most 1,024 bytes into shares: 16n words. One over 64 bytes is hashed by SHA-256, in shares.
+#[no_mangle]
+pub extern "C" fn flamivorse_sha256_split_key(
+    n: usize,
+    key: &[u8],
+    shares: &mut [u32],
+    words: &[u32],
+) -> Answer
+    ensures { λ r. ⌜ splitKeyCall (sha256 32) n (now (key .entry)) (now (shares .entry)) (now (words .entry))
+        ≡ (r, now (shares .exit)) ⌝ }
+{
+    calls::split_key(SHA256, n, key, shares, words)
+}
+
+// One compression of a block of 16n words in shares into a chain.
+#[no_mangle]
+pub extern "C" fn flamivorse_sha256_compress(
+    n: usize,
+    chain: Sha256Chain,
+    block: &[u32],
+    words: &[u32],
+) -> Sha256Compressed
+    ensures { λ r. ⌜ compressCall (sha256 32) n (chain .shares) (now (block .entry)) (now (words .entry))
+        ≡ (record { number = r .number; drawn = r .drawn }, r .chain .shares) ⌝ }
+{
+    let mut all = chain.shares;
+    let made = calls::compress(SHA256, n, &mut all, block, words);
+    Sha256Compressed {
+        number: made.number,
+        drawn: made.drawn,
+        chain: Sha256Chain { shares: all },
     }
-    let drawn = stream::finish_at(state, tag, words, 0);
-    streamed(DONE, drawn, states::finished(state))
+}
+
+// The tag of a message under a key in shares.
+#[no_mangle]
+pub extern "C" fn flamivorse_hmac_sha256(
+    n: usize,
+    key: &[u32],
+    message: &[u8],
+    tag: &mut [u8],
+    words: &[u32],
+) -> Answer
+    ensures { λ r. ⌜ hmacCall (sha256 32) n (now (key .entry)) (now (message .entry)) (now (tag .entry)) (now (words .entry))
+        ≡ (r, now (tag .exit)) ⌝ }
+{
+    calls::tag(SHA256, n, key, message, tag, words)
+}
+
+// The state that a message starts from, under a key in shares.
+#[no_mangle]
+pub extern "C" fn flamivorse_hmac_sha256_start(n: usize, key: &[u32], words: &[u32]) -> Streamed
+    ensures { λ r. ⌜ startCall (sha256 32) n (now (key .entry)) (now (words .entry)) ≡ r ⌝ }
+{
+    calls::start(SHA256, n, key, words)
+}
+
+// A state with one more piece of the message.
+#[no_mangle]
+pub extern "C" fn flamivorse_hmac_sha256_feed(state: State, piece: &[u8], words: &[u32]) -> Streamed
+    ensures { λ r. ⌜ feedCall (sha256 32) state (now (piece .entry)) (now (words .entry)) ≡ r ⌝ }
+{
+    calls::feed(SHA256, state, piece, words)
+}
+
+// The tag of what was fed to a state.
+#[no_mangle]
+pub extern "C" fn flamivorse_hmac_sha256_finish(
+    state: State,
+    tag: &mut [u8],
+    words: &[u32],
+) -> Streamed
+    ensures { λ r. ⌜ finishCall (sha256 32) state (now (tag .entry)) (now (words .entry)) ≡ (r, now (tag .exit)) ⌝ }
+{
+    calls::finish(SHA256, state, tag, words)
 }
 
 // ---- how many words a call will draw
@@ -436,30 +453,30 @@ pub extern "C" fn flamivorse_b2a_short_words(n: usize) -> Answer
 
 #[no_mangle]
 pub extern "C" fn flamivorse_split_key_words(n: usize, length: usize) -> Answer
-    ensures { λ r. ⌜ splitKeyWords 32 n length ≡ r ⌝ }
+    ensures { λ r. ⌜ splitKeyWords (sha1 32) n length ≡ r ⌝ }
 {
-    key_words(n, length)
+    key_words(SHA1, n, length)
 }
 
 #[no_mangle]
 pub extern "C" fn flamivorse_sha1_compress_words(n: usize) -> Answer
-    ensures { λ r. ⌜ compressWords 32 n ≡ r ⌝ }
+    ensures { λ r. ⌜ compressWords (sha1 32) n ≡ r ⌝ }
 {
-    compress_words(n)
+    compress_words(SHA1, n)
 }
 
 #[no_mangle]
 pub extern "C" fn flamivorse_hmac_sha1_words(n: usize, length: usize) -> Answer
-    ensures { λ r. ⌜ hmacWords 32 n length ≡ r ⌝ }
+    ensures { λ r. ⌜ hmacWords (sha1 32) n length ≡ r ⌝ }
 {
-    hmac_words(n, length)
+    hmac_words(SHA1, n, length)
 }
 
 #[no_mangle]
 pub extern "C" fn flamivorse_hmac_sha1_start_words(n: usize) -> Answer
     ensures { λ r. ⌜ startWords (sha1 32) n ≡ r ⌝ }
 {
-    start_words(n)
+    start_words(SHA1, n)
 }
 
 #[no_mangle]
@@ -467,6 +484,7 @@ pub extern "C" fn flamivorse_hmac_sha1_feed_words(state: State, length: usize) -
     ensures { λ r. ⌜ feedWords (sha1 32) state length ≡ r ⌝ }
 {
     feed_words(
+        SHA1,
         state.n,
         state.bytes,
         state.drawn,
@@ -481,6 +499,64 @@ pub extern "C" fn flamivorse_hmac_sha1_finish_words(state: State) -> Answer
     ensures { λ r. ⌜ finishWords (sha1 32) state ≡ r ⌝ }
 {
     finish_words(
+        SHA1,
+        state.n,
+        state.bytes,
+        state.drawn,
+        state.finished,
+        state.hash,
+    )
+}
+
+#[no_mangle]
+pub extern "C" fn flamivorse_sha256_split_key_words(n: usize, length: usize) -> Answer
+    ensures { λ r. ⌜ splitKeyWords (sha256 32) n length ≡ r ⌝ }
+{
+    key_words(SHA256, n, length)
+}
+
+#[no_mangle]
+pub extern "C" fn flamivorse_sha256_compress_words(n: usize) -> Answer
+    ensures { λ r. ⌜ compressWords (sha256 32) n ≡ r ⌝ }
+{
+    compress_words(SHA256, n)
+}
+
+#[no_mangle]
+pub extern "C" fn flamivorse_hmac_sha256_words(n: usize, length: usize) -> Answer
+    ensures { λ r. ⌜ hmacWords (sha256 32) n length ≡ r ⌝ }
+{
+    hmac_words(SHA256, n, length)
+}
+
+#[no_mangle]
+pub extern "C" fn flamivorse_hmac_sha256_start_words(n: usize) -> Answer
+    ensures { λ r. ⌜ startWords (sha256 32) n ≡ r ⌝ }
+{
+    start_words(SHA256, n)
+}
+
+#[no_mangle]
+pub extern "C" fn flamivorse_hmac_sha256_feed_words(state: State, length: usize) -> Answer
+    ensures { λ r. ⌜ feedWords (sha256 32) state length ≡ r ⌝ }
+{
+    feed_words(
+        SHA256,
+        state.n,
+        state.bytes,
+        state.drawn,
+        state.finished,
+        state.hash,
+        length,
+    )
+}
+
+#[no_mangle]
+pub extern "C" fn flamivorse_hmac_sha256_finish_words(state: State) -> Answer
+    ensures { λ r. ⌜ finishWords (sha256 32) state ≡ r ⌝ }
+{
+    finish_words(
+        SHA256,
         state.n,
         state.bytes,
         state.drawn,
