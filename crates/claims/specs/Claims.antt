@@ -1,7 +1,8 @@
--- The claims, on one page: each demand as a theorem about the calls (crates/rules/specs/Calls.antt) at 32 bits. How an
+-- The claims, on one page: each demand as a theorem about the calls (crates/rules/specs/Calls.antt) at 32 bits. What is
+-- said of a hash is said of both, by its code: `hashOf 32 0` is `sha1 32`, `hashOf 32 1` is `sha256 32`. How an
 -- outcome is described, `Given`, `Settles`, `Follows`, `Makes`, stands in crates/rules/specs/Outcome.antt. The hypothesis
 -- `Words k x`, every entry of x is below 2^k, is true of all that the code can be lent: words (k = 32), bytes (k = 8).
-use Prim.Native.Nat.{ℕ, _+_, _-_, _*_, _/_, _%_, _^_, _≤_, _<_}
+use Prim.Native.Nat.{ℕ, zero, suc, _+_, _-_, _*_, _/_, _%_, _^_, _≤_, _<_}
 use mathlib.Core.Path.{_≡_, refl, sym, ap, _∙_}
 use mathlib.Core.List.{List, [], _∷_, _++_}
 use lib.Bits.{bitXor, bitAnd, xor-lt}
@@ -10,8 +11,6 @@ use lib.ListN.{length, getD, take, replicate}
 use Rattle.words.specs.Word.{plus, minus, shift}
 use Rattle.words.proofs.Words.{plus-minus}
 use Rattle.rules.specs.declared.Answer.{Answer}
-use Rattle.rules.specs.declared.Chain.{Chain}
-use Rattle.rules.specs.declared.Compressed.{Compressed}
 use Rattle.rules.specs.declared.State.{State}
 use Rattle.rules.specs.declared.Streamed.{Streamed}
 use Rattle.rules.specs.Supply.{Shares, Words, split, opened, total}
@@ -21,13 +20,15 @@ use Rattle.rules.specs.Independent.{Independent}
 use Rattle.rules.specs.Shares.{refresh, expand, and, add}
 use Rattle.rules.specs.Convert.{toBool, toArith}
 use Rattle.rules.specs.Short.{toArithShort}
-use Rattle.rules.specs.Hash.{bytesOf, numberOf, wordsOf, allBytes, zeros, padding, ended, ending, blocks, digest, keyBlock}
-use Rattle.rules.specs.Hash.{hmac}
-use Rattle.rules.specs.Standard.{SHA1, ROTL, complement, Ch, Parity, Maj, f, schedule, round, rounds, sums, compress}
-use Rattle.rules.specs.Sha1.{openWords, used, compress as compressShares}
-use Rattle.rules.specs.Hmac.{splitKey, hmacTag}
-use Rattle.rules.specs.Counts.{refreshDraws, addDraws, toBoolDraws, toArithDraws, shortDraws, compressDraws}
-use Rattle.rules.specs.Counts.{keyDraws, stateDraws, sha1}
+use Rattle.rules.specs.Hash.{chainWords, digestBytes, bytesOf, numberOf, wordsOf, allBytes, zeros, padding, ended}
+use Rattle.rules.specs.Hash.{ending, schedule, rounds, sums, blocks, digest, keyBlock, hmac}
+use Rattle.rules.specs.Standard.{SHA1, ROTL, complement, Ch, Parity, Maj, f, following, round, compress}
+use Rattle.rules.specs.Standard256.{SHA256, ROTR, SHR, Σ, σ, K}
+use Rattle.rules.specs.Standard256.{following as following256, round as round256, compress as compress256}
+use Rattle.rules.specs.Sha1.{openWords}
+use Rattle.rules.specs.Hmac.{chainRoom, used, chainOf, splitKey, hmacTag}
+use Rattle.rules.specs.Counts.{refreshDraws, addDraws, toBoolDraws, toArithDraws, shortDraws}
+use Rattle.rules.specs.Counts.{keyDraws, stateDraws, standardOf, hashOf, sha1, sha256}
 use Rattle.rules.specs.Calls.{call, b2aTwo, a2bTwo, b2aRecordCall, a2bRecordCall, splitCall, openXorCall, openSumCall}
 use Rattle.rules.specs.Calls.{refreshCall, expandCall, andCall, addCall, a2bCall, b2aCall, b2aShortCall, splitKeyCall}
 use Rattle.rules.specs.Calls.{compressCall, hmacCall}
@@ -43,11 +44,11 @@ use Rattle.rules.proofs.AtCalls.{splitKey-law, split-opens}
 use Rattle.rules.proofs.AtCalls.{hmacTag-law, tags, xor-off}
 use Rattle.rules.proofs.AtCalls.{compress-outcome, compress-drawn, compress-past, compress-opens-to}
 use Rattle.rules.proofs.AtStreams.{start-outcome, start-count, start-past, feed-outcome, feed-count, feed-past}
-use Rattle.rules.proofs.AtStreams.{finish-outcome, finish-count, finish-past, sha1-cuts, sha1-words, streamed-tag}
-use Rattle.rules.proofs.AtStreams.{one-call-tag, sha1-tag}
+use Rattle.rules.proofs.AtStreams.{finish-outcome, finish-count, finish-past, hash-cuts, hash-words, streamed-tag}
+use Rattle.rules.proofs.AtStreams.{one-call-tag, hash-tag}
 use Rattle.rules.proofs.Sizes.{compress-count}
 use Rattle.rules.proofs.Streaming.{state-count}
-use Rattle.rules.proofs.Reaching.{finished-count, fed-not-six, finished-not-six, sha1-counts, sha1-fit}
+use Rattle.rules.proofs.Reaching.{finished-count, fed-not-six, finished-not-six, hash-counts, hash-fit}
 use Rattle.rules.proofs.Openings.{opened-lt}
 use Rattle.rules.proofs.Addition.{add-rule, split-rule}
 use Rattle.rules.proofs.Conversion.{add-adds as add-all, refresh-refreshes, draws-one, draws-power, draws-other}
@@ -82,15 +83,24 @@ pub W-other : (n : ℕ) → 1 < n → ((p : ℕ) → n ≡ 2 ^ p → ⊥)
 W-other n h none =
     draws-other (addDraws 32) n h none ∙ ap (λ d. W (n / 2) + W (n - n / 2) + 2 * (n - 1) + d) (add-count n)
 
+-- E(n), the words of one compression: 5,220·n(n−1) of SHA-1, 9,664·n(n−1) of SHA-256.
+abbrev pub E : ℕ → ℕ → ℕ
+E zero n = 5220 * (n * (n - 1))
+E (suc code) n = 9664 * (n * (n - 1))
+
+pub E-draws : (code n : ℕ) → hashOf 32 code .draws n ≡ E code n
+E-draws zero = compress-count 0
+E-draws (suc code) = compress-count (suc code)
+
 -- D(n, l), the words of splitting a key of l bytes: 16(n−1) up to 64 bytes; over that ceil(l/4)(n−1), and then those of
 -- floor((l + 8)/64) + 1 compressions.
-abbrev pub D : ℕ → ℕ → ℕ
-D n l = keyDraws (sha1 32) n l
+abbrev pub D : ℕ → ℕ → ℕ → ℕ
+D code n l = keyDraws (hashOf 32 code) n l
 
-pub D-short : (n l : ℕ) → l ≤ 64 → D n l ≡ 16 * (n - 1)
+pub D-short : (code n l : ℕ) → l ≤ 64 → D code n l ≡ 16 * (n - 1)
 D-short = short-count
 
-pub D-long : (n l : ℕ) → 64 < l → D n l ≡ (l + 3) / 4 * (n - 1) + ((l + 8) / 64 + 1) * (5220 * (n * (n - 1)))
+pub D-long : (code n l : ℕ) → 64 < l → D code n l ≡ (l + 3) / 4 * (n - 1) + ((l + 8) / 64 + 1) * E code n
 D-long = long-count
 
 -- V(n), the words of the short conversion: V(1) = 0 and V(n) = 3n − 2 + 2V(n−1), which is 7·2^(n−1) − 3n − 4.
@@ -124,12 +134,6 @@ pub record CallsFollow (n : ℕ) : Type 0 where
       (toArith 32 (add 32) refresh x) (b2aCall 32 n x)
   pub b2a-short-follows : (x : List ℕ)
       → Follows (Power n) (length x ≡ n) n None (7 * 2 ^ (n - 1) - 3 * n - 4) (toArithShort 32 x) (b2aShortCall 32 n x)
-  pub split-key-follows : (key : List ℕ)
-      → Follows (Allowed n) None (16 * n) (length key ≤ 1024) (D n (length key))
-      (splitKey (sha1 32) n key) (splitKeyCall 32 n key)
-  pub hmac-follows : (key text : List ℕ)
-      → Follows (Allowed n) (length key ≡ 16 * n) 20 (length text ≤ 65536)
-      (((length text + 8) / 64 + 4) * (5220 * (n * (n - 1)))) (hmacTag (sha1 32) n key text) (hmacCall 32 n key text)
 
 pub calls-follow : (n : ℕ) → CallsFollow n
 unfolding first test call
@@ -143,12 +147,30 @@ calls-follow n =
       a2b-follows = λ a u. follows (says-count n) (says-eq (length a) n) untested (λ c i t. toBool-law n c a i u);
       b2a-follows = λ x u. follows (says-count n) (says-eq (length x) n) untested (λ c i t. toArith-law n c x i u);
       b2a-short-follows = λ x. follows (says-power n) (says-eq (length x) n) untested (λ c i t. short-law n c x i);
+    }
+
+-- The same of a hash: a key split, and a tag of 20 or 32 bytes.
+pub record HashFollows (code n : ℕ) : Type 0 where
+  pub split-key-follows : (key : List ℕ)
+      → Follows (Allowed n) None (16 * n) (length key ≤ 1024) (D code n (length key))
+      (splitKey (hashOf 32 code) n key) (splitKeyCall (hashOf 32 code) n key)
+  pub hmac-follows : (key text : List ℕ)
+      → Follows (Allowed n) (length key ≡ 16 * n) (digestBytes (standardOf 32 code)) (length text ≤ 65536)
+      (((length text + 8) / 64 + 4) * E code n) (hmacTag (hashOf 32 code) n key text) (hmacCall (hashOf 32 code) n key text)
+
+pub hash-follows : (code n : ℕ) → HashFollows code n
+unfolding first test call
+hash-follows code n =
+    record {
       split-key-follows = λ key.
-          follows (says-count n) untested (says-le (length key) 1024) (λ c i t. splitKey-law n c key);
+          follows (says-count n) untested (says-le (length key) 1024) (λ c i t. splitKey-law code n c key);
       hmac-follows = λ key text.
           follows (says-count n) (says-eq (length key) (16 * n)) (says-le (length text) 65536)
-          (λ c i t. hmacTag-law n c key text i);
+          (λ c i t. hmacTag-law code n c key text i);
     }
+
+pub tags-have : (digestBytes (SHA1 32) ≡ 20) × (digestBytes (SHA256 32) ≡ 32)
+tags-have = (refl, refl)
 
 -- An opening gives 0, 1 or 2: the XOR of the shares, or their sum modulo 2^32; refused, the word 0.
 pub open-xor-settles : (n : ℕ) (x : List ℕ)
@@ -176,30 +198,38 @@ a2b-record-settles A r G came = record-settles 165 (a2bRecord 32 A r G) came
 pub record-lengths : (k x r G : ℕ) → 0 < k → (length (b2aRecord k x r G) ≡ 7) × (length (a2bRecord k x r G) ≡ 5 * k + 5)
 record-lengths k x r G h = (b2a-length k x r G, a2b-length k x r G h)
 
--- A compression: refused, the chain record exactly as given; accepted, the new chain with 0 after 5n words, and
--- 5,220·n(n−1) words drawn. What the record has after 5n words, and the supply after those drawn, is not looked at.
--- (That a chain has 80 words is its type's, `[u32; 80]`.)
-module _ (n : ℕ) (chain : Chain) (whole : length (chain .shares) ≡ 80) (block ws : List ℕ) where
-  abbrev o : Compressed
-  o = compressCall 32 n chain block ws
+-- A compression: refused, the chain record exactly as given; accepted, the new chain with 0 after its words, 5n of SHA-1
+-- and 8n of SHA-256, and E(n) words drawn. What the record has after these words, and the supply after those drawn, is
+-- not looked at. (That a record has 80 or 128 places is its type's.)
+module _ (code n : ℕ) (chain : List ℕ) (whole : length chain ≡ chainRoom (standardOf 32 code)) (block ws : List ℕ) where
+  abbrev words : ℕ
+  words = chainWords (standardOf 32 code)
 
-  pub compress-settles : (let made = compressShares 32 (add 32) n (used n (chain .shares)) block ws 0 in
-      Settles {A = Chain × ℕ} (Given (Allowed n) (length block ≡ 16 * n) None None (5220 * (n * (n - 1)) ≤ length ws))
-      (o .number) (record { shares = made .0 ++ replicate (80 - 5 * n) 0 }, made .1) (chain, 0) (o .chain, o .drawn))
-  compress-settles = compress-outcome n chain block whole ws
+  abbrev o : Answer × List ℕ
+  o = compressCall (hashOf 32 code) n chain block ws
 
-  pub compress-draws : o .number ≡ 0 → o .drawn ≡ 5220 * (n * (n - 1))
-  compress-draws = compress-drawn n chain block whole ws
+  pub compress-settles : (let made = hashOf 32 code .compress n (take (words * n) chain) block ws 0 in
+      Settles {A = List ℕ × ℕ}
+      (Asks (Allowed n) 1 (Asks (length block ≡ 16 * n) 2 (Asks (E code n ≤ length ws) 5 Done)))
+      (o .0 .number) (made .0 ++ replicate (words * 16 - words * n) 0, made .1) (chain, 0) (o .1, o .0 .drawn))
+  unfolding used chainOf
+  compress-settles = compress-outcome code n chain block whole ws
 
-  pub compress-past-draws : o .number ≡ 0 → (other : Chain) (vs : List ℕ)
-      → take (5 * n) (chain .shares) ≡ take (5 * n) (other .shares)
-      → take (5220 * (n * (n - 1))) ws ≡ take (5220 * (n * (n - 1))) vs → o ≡ compressCall 32 n other block vs
-  compress-past-draws = compress-past n chain block whole ws
+  pub compress-draws : o .0 .number ≡ 0 → o .0 .drawn ≡ E code n
+  compress-draws = compress-drawn code n chain block whole ws
+
+  pub compress-past-draws : o .0 .number ≡ 0 → (other vs : List ℕ) → take (words * n) chain ≡ take (words * n) other
+      → take (E code n) ws ≡ take (E code n) vs → o ≡ compressCall (hashOf 32 code) n other block vs
+  compress-past-draws = compress-past code n chain block whole ws
 
   -- Demand 2: it opens to FIPS 180-4's compression of what the chain and the block open to.
-  pub compress-is-fips180 : o .number ≡ 0 → Words 32 (chain .shares) → Words 32 block
-      → openWords n 5 (o .chain .shares) ≡ compress 32 (openWords n 5 (chain .shares)) (openWords n 16 block)
-  compress-is-fips180 = compress-opens-to n chain block whole ws
+  pub compress-is-fips180 : o .0 .number ≡ 0 → Words 32 chain → Words 32 block
+      → openWords n words (o .1)
+      ≡ standardOf 32 code .compress (openWords n words chain) (openWords n 16 block)
+  compress-is-fips180 = compress-opens-to code n chain block whole ws
+
+pub records-have : (chainRoom (SHA1 32) ≡ 80) × (chainRoom (SHA256 32) ≡ 128)
+records-have = (refl, refl)
 
 -- ==== Demand 2: right whatever the random words are
 -- Splitting, refresh and expand keep the secret; AND opens to the AND, addition to the sum modulo 2^32.
@@ -279,21 +309,34 @@ module _ (k : ℕ) (x ws : List ℕ) (at : ℕ) where
 
 -- Splitting a key and tagging with its shares gives the bytes of RFC 2104 over FIPS 180-4, for all keys, of up to 1,024
 -- bytes, texts and words: in one call, and streamed, from any start, feeds and finish that are accepted.
-pub tag-is-rfc2104 : (n : ℕ) (key text : List ℕ) → Words 8 key → Words 8 text
-    → Makes 32 (splitKeyCall 32 n key)
-    (λ shares. Makes 32 (hmacCall 32 n shares text) (λ tag. tag ≡ hmac (SHA1 32) key text))
-tag-is-rfc2104 n key text u v = makes (calls-follow n .split-key-follows key) (λ c i t ws w. tags n c key text u v ws)
+pub tag-is-rfc2104 : (code n : ℕ) (key text : List ℕ) → Words 8 key → Words 8 text
+    → Makes 32 (splitKeyCall (hashOf 32 code) n key)
+    (λ shares. Makes 32 (hmacCall (hashOf 32 code) n shares text) (λ tag. tag ≡ hmac (standardOf 32 code) key text))
+tag-is-rfc2104 code n key text u v =
+    makes (hash-follows code n .split-key-follows key) (λ c i t ws w. tags code n c key text u v ws)
 
-pub streamed-tag-of-split-key : (n : ℕ) (key : List ℕ) → Words 8 key
-    → Makes 32 (splitKeyCall 32 n key)
-    (λ shares. (ws : List ℕ) (fs : Feeds) (came vs : List ℕ) → (let s = startCall (sha1 32) n shares ws in
-    let o = finishCall (sha1 32) (after (sha1 32) (s .state) fs) came vs in
-    s .number ≡ 0 → Words 8 (message fs) → Accepted (sha1 32) (s .state) fs → o .0 .number ≡ 0
-    → o .1 ≡ hmac (SHA1 32) key (message fs)))
-streamed-tag-of-split-key n key u =
-    makes (calls-follow n .split-key-follows key)
+pub streamed-tag-of-split-key : (code n : ℕ) (key : List ℕ) → Words 8 key
+    → Makes 32 (splitKeyCall (hashOf 32 code) n key)
+    (λ shares. (ws : List ℕ) (fs : Feeds) (came vs : List ℕ) → (let M = hashOf 32 code in
+    let s = startCall M n shares ws in
+    let o = finishCall M (after M (s .state) fs) came vs in
+    s .number ≡ 0 → Words 8 (message fs) → Accepted M (s .state) fs → o .0 .number ≡ 0
+    → o .1 ≡ hmac (standardOf 32 code) key (message fs)))
+streamed-tag-of-split-key code n key u =
+    makes (hash-follows code n .split-key-follows key)
     (λ c i t vs w ws fs came us ok bytes taken done.
-    sha1-tag n _ ws ok key u (split-opens n c key u vs) fs bytes taken came us done)
+    hash-tag code n _ ws ok key u (split-opens code n c key u vs) fs bytes taken came us done)
+
+-- So it is of SHA-1, and of SHA-256.
+pub sha1-tag-is-rfc2104 : (n : ℕ) (key text : List ℕ) → Words 8 key → Words 8 text
+    → Makes 32 (splitKeyCall (sha1 32) n key)
+    (λ shares. Makes 32 (hmacCall (sha1 32) n shares text) (λ tag. tag ≡ hmac (SHA1 32) key text))
+sha1-tag-is-rfc2104 = tag-is-rfc2104 0
+
+pub sha256-tag-is-rfc2104 : (n : ℕ) (key text : List ℕ) → Words 8 key → Words 8 text
+    → Makes 32 (splitKeyCall (sha256 32) n key)
+    (λ shares. Makes 32 (hmacCall (sha256 32) n shares text) (λ tag. tag ≡ hmac (SHA256 32) key text))
+sha256-tag-is-rfc2104 = tag-is-rfc2104 1
 
 -- The working two-share forms keep the secret, and are what the recording forms end in, whatever the fresh word is.
 pub b2a-two-keeps : (x′ r : ℕ) → x′ < 2 ^ 32 → r < 2 ^ 32 → (b2aTwo 32 x′ r + r) % 2 ^ 32 ≡ bitXor x′ r
@@ -327,69 +370,69 @@ a2b-step-says-nothing k i came =
 
 -- ==== Streaming: a tag while the message comes in pieces
 -- Start: refused, a state of zeros; accepted, the rule's, with the words of two compressions drawn.
-module _ (n : ℕ) (key ws : List ℕ) where
+module _ (code n : ℕ) (key ws : List ℕ) where
   abbrev started : Streamed
-  started = startCall (sha1 32) n key ws
+  started = startCall (hashOf 32 code) n key ws
 
   pub start-settles : Settles {A = State × ℕ}
-      (Asks (Allowed n) 1 (Asks (length key ≡ 16 * n) 2 (Asks (2 * (5220 * (n * (n - 1))) ≤ length ws) 5 Done)))
-      (started .number) (start (sha1 32) n key ws 0) (stateOfZeros, 0) (started .state, started .drawn)
-  start-settles = start-outcome n key ws
+      (Asks (Allowed n) 1 (Asks (length key ≡ 16 * n) 2 (Asks (2 * E code n ≤ length ws) 5 Done)))
+      (started .number) (start (hashOf 32 code) n key ws 0) (stateOfZeros, 0) (started .state, started .drawn)
+  start-settles = start-outcome code n key ws
 
-  pub start-draws : started .number ≡ 0 → started .drawn ≡ 2 * (5220 * (n * (n - 1)))
-  start-draws = start-count n key ws
+  pub start-draws : started .number ≡ 0 → started .drawn ≡ 2 * E code n
+  start-draws = start-count code n key ws
 
   pub start-past-draws : started .number ≡ 0 → (vs : List ℕ)
-      → take (2 * (5220 * (n * (n - 1)))) ws ≡ take (2 * (5220 * (n * (n - 1)))) vs → started
-      ≡ startCall (sha1 32) n key vs
-  start-past-draws = start-past n key ws
+      → take (2 * E code n) ws ≡ take (2 * E code n) vs → started
+      ≡ startCall (hashOf 32 code) n key vs
+  start-past-draws = start-past code n key ws
 
--- Feed and finish, on any state at all. (That its chains have 80 words and its tail 64 bytes is its type's.) Number 6
+-- Feed and finish, on any state at all. (That its chains have 128 words and its tail 64 bytes is its type's.) Number 6
 -- comes before all others. Refused, the state is as given. What is not read of the state, and the supply after the
 -- words drawn, has no influence.
-module _ (s : State) (whole : Whole s) (ws : List ℕ) where
+module _ (code : ℕ) (s : State) (whole : Whole s) (ws : List ℕ) where
   module _ (piece : List ℕ) where
     abbrev fed : Streamed
-    fed = feedCall (sha1 32) s piece ws
+    fed = feedCall (hashOf 32 code) s piece ws
 
     -- one compression for each block that the piece fills
     abbrev feedsDraw : ℕ
-    feedsDraw = (s .bytes % 64 + length piece) / 64 * (5220 * (s .n * (s .n - 1)))
+    feedsDraw = (s .bytes % 64 + length piece) / 64 * E code (s .n)
 
     pub feed-settles : Settles {A = State × ℕ}
-        (Asks (Fit (sha1 32) s) 6 (Asks (s .bytes + length piece ≤ 65536) 4 (Asks (feedsDraw ≤ length ws) 5 Done)))
-        (fed .number) (feed (sha1 32) s piece ws 0) (s, 0) (fed .state, fed .drawn)
-    feed-settles = feed-outcome s whole ws piece
+        (Asks (Fit (hashOf 32 code) s) 6 (Asks (s .bytes + length piece ≤ 65536) 4 (Asks (feedsDraw ≤ length ws) 5 Done)))
+        (fed .number) (feed (hashOf 32 code) s piece ws 0) (s, 0) (fed .state, fed .drawn)
+    feed-settles = feed-outcome code s whole ws piece
 
     pub feed-draws : fed .number ≡ 0 → fed .drawn ≡ feedsDraw
-    feed-draws = feed-count s whole ws piece
+    feed-draws = feed-count code s whole ws piece
 
-    pub feed-past-draws : fed .number ≡ 0 → (t : State) (vs : List ℕ) → ReadAlike (SHA1 32) s t
-        → take feedsDraw ws ≡ take feedsDraw vs → fed ≡ feedCall (sha1 32) t piece vs
-    feed-past-draws = feed-past s whole ws piece
+    pub feed-past-draws : fed .number ≡ 0 → (t : State) (vs : List ℕ) → ReadAlike (standardOf 32 code) s t
+        → take feedsDraw ws ≡ take feedsDraw vs → fed ≡ feedCall (hashOf 32 code) t piece vs
+    feed-past-draws = feed-past code s whole ws piece
 
   module _ (came : List ℕ) where
     abbrev finished : Streamed × List ℕ
-    finished = finishCall (sha1 32) s came ws
+    finished = finishCall (hashOf 32 code) s came ws
 
     abbrev finishDraws : ℕ
-    finishDraws = ((s .bytes % 64 + 8) / 64 + 2) * (5220 * (s .n * (s .n - 1)))
+    finishDraws = ((s .bytes % 64 + 8) / 64 + 2) * E code (s .n)
 
     -- accepted, only the finished mark is set
-    pub finish-settles : (let made = finish (sha1 32) s ws 0 in
+    pub finish-settles : (let made = finish (hashOf 32 code) s ws 0 in
         Settles {A = State × List ℕ × ℕ}
-        (Asks (Fit (sha1 32) s) 6 (Asks (length came ≡ 20) 3 (Asks (finishDraws ≤ length ws) 5 Done)))
+        (Asks (Fit (hashOf 32 code) s) 6 (Asks (length came ≡ digestBytes (standardOf 32 code)) 3 (Asks (finishDraws ≤ length ws) 5 Done)))
         (finished .0 .number) (closed s, made .0, made .1) (s, came, 0)
         (finished .0 .state, finished .1, finished .0 .drawn))
-    finish-settles = finish-outcome s whole ws came
+    finish-settles = finish-outcome code s whole ws came
 
     pub finish-draws : finished .0 .number ≡ 0 → finished .0 .drawn ≡ finishDraws
-    finish-draws = finish-count s whole ws came
+    finish-draws = finish-count code s whole ws came
 
-    pub finish-past-draws : finished .0 .number ≡ 0 → (t : State) (vs : List ℕ) → ReadAlike (SHA1 32) s t
-        → take finishDraws ws ≡ take finishDraws vs → (let o = finishCall (sha1 32) t came vs in
+    pub finish-past-draws : finished .0 .number ≡ 0 → (t : State) (vs : List ℕ) → ReadAlike (standardOf 32 code) s t
+        → take finishDraws ws ≡ take finishDraws vs → (let o = finishCall (hashOf 32 code) t came vs in
         (o .1 ≡ finished .1) × (o .0 .number ≡ 0) × (o .0 .drawn ≡ finished .0 .drawn))
-    finish-past-draws = finish-past s whole ws came
+    finish-past-draws = finish-past code s whole ws came
 
 -- A number is given exactly when it is said: whatever is asked, no two numbers fit.
 pub asks-exactly : {A B C : Type 0} {a b c i j : ℕ}
@@ -398,89 +441,91 @@ asks-exactly = only (only (only done-only))
 
 -- Any cutting, at every width: two lists of pieces with the same bytes joined, each piece with a supply of its own,
 -- none refused, and the words drawn the same when joined in order, end in the same state, hence in the same tag.
-module _ (k : ℕ) (wide : 0 < k) (n : ℕ) (key ws : List ℕ) (accepted : startCall (sha1 k) n key ws .number ≡ 0) where
+module _ (k : ℕ) (wide : 0 < k) (code n : ℕ) (key ws : List ℕ)
+    (accepted : startCall (hashOf k code) n key ws .number ≡ 0) where
   abbrev s₀ : State
-  s₀ = startCall (sha1 k) n key ws .state
+  s₀ = startCall (hashOf k code) n key ws .state
 
-  pub any-cutting : (fs gs : Feeds) → Accepted (sha1 k) s₀ fs → Accepted (sha1 k) s₀ gs
-      → message fs ≡ message gs → drawn (sha1 k) s₀ fs ≡ drawn (sha1 k) s₀ gs
-      → (after (sha1 k) s₀ fs ≡ after (sha1 k) s₀ gs)
-      × ((came vs : List ℕ) → finishCall (sha1 k) (after (sha1 k) s₀ fs) came vs
-      ≡ finishCall (sha1 k) (after (sha1 k) s₀ gs) came vs)
+  pub any-cutting : (fs gs : Feeds) → Accepted (hashOf k code) s₀ fs → Accepted (hashOf k code) s₀ gs
+      → message fs ≡ message gs → drawn (hashOf k code) s₀ fs ≡ drawn (hashOf k code) s₀ gs
+      → (after (hashOf k code) s₀ fs ≡ after (hashOf k code) s₀ gs)
+      × ((came vs : List ℕ) → finishCall (hashOf k code) (after (hashOf k code) s₀ fs) came vs
+      ≡ finishCall (hashOf k code) (after (hashOf k code) s₀ gs) came vs)
   any-cutting fs gs f g bytes words =
-      let same = sha1-cuts k wide n key ws accepted fs gs f g bytes words in
-      (same, λ came vs. ap (λ s. finishCall (sha1 k) s came vs) same)
+      let same = hash-cuts k wide code n key ws accepted fs gs f g bytes words in
+      (same, λ came vs. ap (λ s. finishCall (hashOf k code) s came vs) same)
 
   -- The count: over any run of accepted calls, the words of floor((L + 8)/64) + 4 compressions.
-  pub streamed-count : (fs : Feeds) → Accepted (sha1 k) s₀ fs → (came vs : List ℕ)
-      → (let o = finishCall (sha1 k) (after (sha1 k) s₀ fs) came vs .0 in o .number ≡ 0
-      → startCall (sha1 k) n key ws .drawn + length (drawn (sha1 k) s₀ fs) + o .drawn
-      ≡ ((length (message fs) + 8) / 64 + 4) * compressDraws k n)
-  streamed-count = sha1-words k wide n key ws accepted
+  pub streamed-count : (fs : Feeds) → Accepted (hashOf k code) s₀ fs → (came vs : List ℕ)
+      → (let o = finishCall (hashOf k code) (after (hashOf k code) s₀ fs) came vs .0 in o .number ≡ 0
+      → startCall (hashOf k code) n key ws .drawn + length (drawn (hashOf k code) s₀ fs) + o .drawn
+      ≡ ((length (message fs) + 8) / 64 + 4) * hashOf k code .draws n)
+  streamed-count = hash-words k wide code n key ws accepted
 
 -- What a state carries, at every width: over any run of calls from an accepted start, accepted and refused, each on a
 -- state that an earlier one handed back. Its count is the words that start and feeds drew, and those are the rules' for
 -- the bytes taken; a refused call adds to neither. So it is fit until it is finished: 6 is never given for its count.
-module _ (k : ℕ) (wide : 0 < k) {n bytes words : ℕ} {s : State} (run : Reached (sha1 k) n bytes words s) where
+module _ (k : ℕ) (wide : 0 < k) (code : ℕ) {n bytes words : ℕ} {s : State} (run : Reached (hashOf k code) n bytes words s) where
   pub reached-counts : (s .n ≡ n) × (s .bytes ≡ bytes) × (s .drawn ≡ words)
-      × (words ≡ (2 + bytes / 64) * compressDraws k n)
+      × (words ≡ (2 + bytes / 64) * hashOf k code .draws n)
   reached-counts =
-      let c = sha1-counts k wide run in
-      (c .shares, c .taken-bytes, c .drawn-words, c .by-rule ∙ state-count (sha1 k) n bytes refl)
+      let c = hash-counts k wide code run in
+      (c .shares, c .taken-bytes, c .drawn-words, c .by-rule ∙ state-count (hashOf k code) n bytes refl)
 
-  pub reached-fit : s .finished ≡ 0 → Fit (sha1 k) s
-  reached-fit = sha1-fit k wide run
+  pub reached-fit : s .finished ≡ 0 → Fit (hashOf k code) s
+  reached-fit = hash-fit k wide code run
 
-  pub feed-never-six : s .finished ≡ 0 → (piece ws : List ℕ) → feedCall (sha1 k) s piece ws .number ≡ 6 → ⊥
-  feed-never-six unmarked = fed-not-six (sha1 k) s (reached-fit unmarked)
+  pub feed-never-six : s .finished ≡ 0 → (piece ws : List ℕ) → feedCall (hashOf k code) s piece ws .number ≡ 6 → ⊥
+  feed-never-six unmarked = fed-not-six (hashOf k code) s (reached-fit unmarked)
 
-  pub finish-never-six : s .finished ≡ 0 → (came ws : List ℕ) → finishCall (sha1 k) s came ws .0 .number ≡ 6 → ⊥
-  finish-never-six unmarked = finished-not-six (sha1 k) s (reached-fit unmarked)
+  pub finish-never-six : s .finished ≡ 0 → (came ws : List ℕ) → finishCall (hashOf k code) s came ws .0 .number ≡ 6 → ⊥
+  finish-never-six unmarked = finished-not-six (hashOf k code) s (reached-fit unmarked)
 
 -- The count that a fit state has, in closed form; and a finish leaves it, on any state, accepted or refused.
-pub state-draws : (n bytes : ℕ) → stateDraws (sha1 32) n bytes ≡ (2 + bytes / 64) * (5220 * (n * (n - 1)))
-state-draws n bytes = state-count (sha1 32) n bytes refl ∙ ap (λ d. (2 + bytes / 64) * d) (compress-count n)
+pub state-draws : (code n bytes : ℕ) → stateDraws (hashOf 32 code) n bytes ≡ (2 + bytes / 64) * E code n
+state-draws code n bytes = state-count (hashOf 32 code) n bytes refl ∙ ap (λ d. (2 + bytes / 64) * d) (E-draws code n)
 
-pub finish-leaves-count : (s : State) (came ws : List ℕ) → finishCall (sha1 32) s came ws .0 .state .drawn ≡ s .drawn
-finish-leaves-count = finished-count (sha1 32)
+pub finish-leaves-count : (code : ℕ) (s : State) (came ws : List ℕ) → finishCall (hashOf 32 code) s came ws .0 .state .drawn ≡ s .drawn
+finish-leaves-count code = finished-count (hashOf 32 code)
 
 -- The tag: RFC 2104's of the opened key and the joined pieces, whatever the words are; so it is the one-call tag.
-module _ (n : ℕ) (key ws : List ℕ) (words : Words 32 key) (accepted : startCall (sha1 32) n key ws .number ≡ 0)
+module _ (code n : ℕ) (key ws : List ℕ) (words : Words 32 key)
+    (accepted : startCall (hashOf 32 code) n key ws .number ≡ 0)
     (fs : Feeds) (bytes : Words 8 (message fs))
-    (taken : Accepted (sha1 32) (startCall (sha1 32) n key ws .state) fs) where
+    (taken : Accepted (hashOf 32 code) (startCall (hashOf 32 code) n key ws .state) fs) where
   abbrev last : List ℕ → List ℕ → Streamed × List ℕ
-  last came vs = finishCall (sha1 32) (after (sha1 32) (startCall (sha1 32) n key ws .state) fs) came vs
+  last came vs = finishCall (hashOf 32 code) (after (hashOf 32 code) (startCall (hashOf 32 code) n key ws .state) fs) came vs
 
   pub streamed-tag-is-rfc2104 : (came vs : List ℕ) → last came vs .0 .number ≡ 0
-      → last came vs .1 ≡ hmac (SHA1 32) (allBytes 4 (openWords n 16 key)) (message fs)
-  streamed-tag-is-rfc2104 = streamed-tag n key (message fs) words bytes ws accepted fs refl taken
+      → last came vs .1 ≡ hmac (standardOf 32 code) (allBytes 4 (openWords n 16 key)) (message fs)
+  streamed-tag-is-rfc2104 = streamed-tag code n key (message fs) words bytes ws accepted fs refl taken
 
   pub streamed-tag-is-one-call : (came vs other us : List ℕ) → last came vs .0 .number ≡ 0
-      → (let o = hmacCall 32 n key (message fs) other us in o .0 .number ≡ 0 → last came vs .1 ≡ o .1)
+      → (let o = hmacCall (hashOf 32 code) n key (message fs) other us in o .0 .number ≡ 0 → last came vs .1 ≡ o .1)
   streamed-tag-is-one-call came vs other us h g =
-      streamed-tag-is-rfc2104 came vs h ∙ sym (one-call-tag n key (message fs) words bytes other us g)
+      streamed-tag-is-rfc2104 came vs h ∙ sym (one-call-tag code n key (message fs) words bytes other us g)
 
 -- ==== No two differing outcomes satisfy one promise: in general, of a tag, and of a finish
 pub no-two-outcomes : {O : Type 0} (promised one other : O) → promised ≡ one → promised ≡ other → one ≡ other
 no-two-outcomes = one-outcome
 
-pub no-two-tags : (n : ℕ) (key text came ws tag tag′ : List ℕ) (answer answer′ : Answer)
-    → hmacCall 32 n key text came ws ≡ (answer, tag) → hmacCall 32 n key text came ws ≡ (answer′, tag′)
+pub no-two-tags : (code n : ℕ) (key text came ws tag tag′ : List ℕ) (answer answer′ : Answer)
+    → hmacCall (hashOf 32 code) n key text came ws ≡ (answer, tag) → hmacCall (hashOf 32 code) n key text came ws ≡ (answer′, tag′)
     → (answer ≡ answer′) × (tag ≡ tag′)
-no-two-tags n key text came ws tag tag′ answer answer′ p q =
-    let e = no-two-outcomes (hmacCall 32 n key text came ws) (answer, tag) (answer′, tag′) p q in
+no-two-tags code n key text came ws tag tag′ answer answer′ p q =
+    let e = no-two-outcomes (hmacCall (hashOf 32 code) n key text came ws) (answer, tag) (answer′, tag′) p q in
     (ap (λ o. o .0) e, ap (λ o. o .1) e)
 
-pub no-two-finishes : (s : State) (came ws tag tag′ : List ℕ) (r r′ : Streamed)
-    → finishCall (sha1 32) s came ws ≡ (r, tag) → finishCall (sha1 32) s came ws ≡ (r′, tag′) → (r ≡ r′) × (tag ≡ tag′)
-no-two-finishes s came ws tag tag′ r r′ p q =
-    let e = no-two-outcomes (finishCall (sha1 32) s came ws) (r, tag) (r′, tag′) p q in
+pub no-two-finishes : (code : ℕ) (s : State) (came ws tag tag′ : List ℕ) (r r′ : Streamed)
+    → finishCall (hashOf 32 code) s came ws ≡ (r, tag) → finishCall (hashOf 32 code) s came ws ≡ (r′, tag′) → (r ≡ r′) × (tag ≡ tag′)
+no-two-finishes code s came ws tag tag′ r r′ p q =
+    let e = no-two-outcomes (finishCall (hashOf 32 code) s came ws) (r, tag) (r′, tag′) p q in
     (ap (λ o. o .0) e, ap (λ o. o .1) e)
 
--- ==== The standards, computed: FIPS 180's example "abc", and case 1 of RFC 2202
+-- ==== The standards, computed: FIPS 180's example "abc", and case 1 of RFC 2202 and of RFC 4231
 pub sha1-of-abc : digest (SHA1 32) (0x61 ∷ 0x62 ∷ 0x63 ∷ []) ≡ bytesOf 20 0xa9993e364706816aba3e25717850c26c9cd0d89d
-unfolding digest bytesOf numberOf wordsOf allBytes zeros padding ended ending blocks
-    ROTL complement Ch Parity Maj f schedule round rounds sums compress plus shift
+unfolding digest bytesOf numberOf wordsOf allBytes zeros padding ended ending blocks schedule rounds sums
+    ROTL complement Ch Parity Maj f following round compress plus shift
 sha1-of-abc = refl
 
 pub hmac-of-hi-there :
@@ -488,6 +533,18 @@ pub hmac-of-hi-there :
     ≡ bytesOf 20 0xb617318655057264e28bc0b6fb378c8ef146be00
 unfolding hmac keyBlock sha1-of-abc
 hmac-of-hi-there = refl
+
+pub sha256-of-abc : digest (SHA256 32) (0x61 ∷ 0x62 ∷ 0x63 ∷ [])
+    ≡ bytesOf 32 0xba7816bf8f01cfea414140de5dae2223b00361a396177a9cb410ff61f20015ad
+unfolding digest bytesOf numberOf wordsOf allBytes zeros padding ended ending blocks schedule rounds sums
+    ROTL complement Ch Maj ROTR SHR Σ σ K following256 round256 compress256 plus shift
+sha256-of-abc = refl
+
+pub hmac-sha256-of-hi-there :
+    hmac (SHA256 32) (replicate 20 0x0b) (0x48 ∷ 0x69 ∷ 0x20 ∷ 0x54 ∷ 0x68 ∷ 0x65 ∷ 0x72 ∷ 0x65 ∷ [])
+    ≡ bytesOf 32 0xb0344c61d8db38535ca8afceaf0bf12b881dc200c9833da726e9376c2e32cff7
+unfolding hmac keyBlock sha256-of-abc
+hmac-sha256-of-hi-there = refl
 
 -- ==== What no theorem says, and is read
 -- That no word serves two draws is the shape of the rules: every draw moves the place on (`Draw` of rules/specs/Supply,
