@@ -253,14 +253,7 @@ pub fn state_words(code: u32, n: usize, bytes: usize) -> usize
 }
 
 // A state that feed and finish take, by its counts, its mark and its hash.
-fn is_fit(
-    code: u32,
-    n: usize,
-    bytes: usize,
-    drawn: usize,
-    finished: u32,
-    hash: u32,
-) -> bool
+fn is_fit(code: u32, n: usize, bytes: usize, drawn: usize, finished: u32, hash: u32) -> bool
     ensures { λ r. ⌜ r ≡ fit (hashOf 32 code) n bytes drawn finished hash ⌝ }
 {
     if both(is_allowed(n), bytes <= LONGEST_MESSAGE) {

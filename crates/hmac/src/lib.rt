@@ -173,7 +173,16 @@ fn inner_step(
         × (r .at ≡ at + hash code .draws n + blocksIn (length (now (text .entry))) * hash code .draws n) ⌝ }
 {
     let start = key_step(code, n, INNER, key, block, words, at);
-    text_step(code, n, start.chain, BLOCK_BYTES, text, block, words, start.at)
+    text_step(
+        code,
+        n,
+        start.chain,
+        BLOCK_BYTES,
+        text,
+        block,
+        words,
+        start.at,
+    )
 }
 
 // The outer key block, then the digest block of the inner chain, from the word at `at` on. `block` is room for one.

@@ -147,7 +147,14 @@ fn long_key(code: u32, n: usize, key: &[u8], shares: &mut [u32], words: &[u32], 
 }
 
 // A key into shares, from the word at `at` on; the place after.
-pub fn split_key(code: u32, n: usize, key: &[u8], shares: &mut [u32], words: &[u32], at: usize) -> usize
+pub fn split_key(
+    code: u32,
+    n: usize,
+    key: &[u8],
+    shares: &mut [u32],
+    words: &[u32],
+    at: usize,
+) -> usize
     requires { ⌜ (0 < n) × (n ≤ largest) × (length (now key) ≤ longestKey) × (length (now shares) ≡ 16 * n)
         × (at + keyDraws (hash code) n (length (now key)) ≤ length (now words)) ⌝ }
     ensures { λ r. ⌜ splitKey (hash code) n (now (key .entry)) (now (words .entry)) at ≡ (now (shares .exit), r) ⌝ }

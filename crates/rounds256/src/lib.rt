@@ -361,7 +361,15 @@ pub fn rounds_at(n: usize, u: &[u32], s: &mut [u32], words: &[u32], at: usize) -
     let mut t: usize = 0;
     while t < SHA256_ROUNDS {
         let w = word(u, n, t);
-        p = round_at(n, t, (SHA256_ROUNDS - t) % SHA256_CHAIN_WORDS, w, s, words, p);
+        p = round_at(
+            n,
+            t,
+            (SHA256_ROUNDS - t) % SHA256_CHAIN_WORDS,
+            w,
+            s,
+            words,
+            p,
+        );
         t += 1;
     }
     p

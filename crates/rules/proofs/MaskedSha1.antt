@@ -48,8 +48,12 @@ module _ {k n d : ℕ} {adder : Adder} {Fits : ℕ → Type 0} {Good : List ℕ 
   unfolding allOf roundsAnds
   all-rounds zero t = omega (arith, zero-mul (andDraws n), zero-mul (4 * d))
   all-rounds (suc m) t =
-      omega (arith, all-rounds m (t + 1), add-mul (quarterAnds (t / 20)) (roundsAnds 0 m (t + 1)) (andDraws n),
-      suc-mul m (4 * d))
+      omega (
+        arith,
+        all-rounds m (t + 1),
+        add-mul (quarterAnds (t / 20)) (roundsAnds 0 m (t + 1)) (andDraws n),
+        suc-mul m (4 * d),
+      )
 
   -- ---- the schedule
   schedule-of : {m : ℕ} {w W : List ℕ} (p : ℕ) → 16 ≤ m → Goods Good m w W

@@ -2,8 +2,8 @@
 use Prim.Native.Nat.{_+_, _-_, _≤_}
 use borrow.Author.Needs.{needs}
 use lib.ListN.{length}
-use Rattle.rfc2202.proofs.read_lines.Statement.{statement}
-use Rattle.rfc2202.proofs.read_lines.Tie as tie
+use Rattle.cases.proofs.read_lines.Statement.{statement}
+use Rattle.cases.proofs.read_lines.Tie as tie
 
 abbrev Inv-loop : tie.InvT-loop
 Inv-loop text cases₀ right₀ line₀ at₀ cases right line at =

@@ -1,16 +1,28 @@
-// Runs the test cases of RFC 2202, section 3, from the file that the first argument names: for each case its number,
-// its tag, and whether it is the file's digest. A line that is no case is told with its number. No random words: at one
-// share none are drawn.
+// Runs the test cases of RFC 2202, section 3, and of RFC 4231 for SHA-256, from the files that the first two arguments
+// name: for each case its number, its tag, and whether it is the file's digest. The digest's length says which hash it
+// is: 20 bytes are SHA-1's, 32 are SHA-256's, and 16 are the first ones of SHA-256's. A line that is no case is told with
+// its number. No random words: at one share none are drawn.
+ghost use mathlib.Core.Path.{_≡_};
 ghost use Prim.Native.Nat.{_≤_};
+ghost use lib.ListN.{length};
 use lines::FINE;
 use lines::TOO_SHORT;
 use rules::BLOCK_WORDS;
+use rules::CHAIN_WORDS;
 use rules::LONGEST_KEY;
 use rules::LONGEST_MESSAGE;
-use rules::TAG_BYTES;
+use rules::SHA256_CHAIN_WORDS;
+use rules::WORD_BYTES;
 
 // The longest line that is read as a case, in bytes.
 const LONGEST_LINE: usize = 11000;
+
+// The bytes of a tag, of either hash, and of one cut short.
+const SHA1_TAG: usize = CHAIN_WORDS * WORD_BYTES;
+
+const SHA256_TAG: usize = SHA256_CHAIN_WORDS * WORD_BYTES;
+
+const SHORT_TAG: usize = 16;
 
 // How many cases there are, and how many of them are right.
 struct Tally {
@@ -18,8 +30,8 @@ struct Tally {
     right: u64,
 }
 
-// The tag of the data under the key, at one share; whether both calls were done.
-fn make_tag(key: &[u8], data: &[u8], tag: &mut [u8]) -> bool {
+// The tag of the data under the key by SHA-1, at one share; whether both calls were done.
+fn sha1_tag(key: &[u8], data: &[u8], tag: &mut [u8]) -> bool {
     let words = [0u32; 0];
     let mut shares = [0u32; BLOCK_WORDS];
     let split = flamivorse::flamivorse_split_key(1, key, &mut shares, &words);
@@ -30,29 +42,68 @@ fn make_tag(key: &[u8], data: &[u8], tag: &mut [u8]) -> bool {
     made.number == 0
 }
 
+// The same by SHA-256.
+fn sha256_tag(key: &[u8], data: &[u8], tag: &mut [u8]) -> bool {
+    let words = [0u32; 0];
+    let mut shares = [0u32; BLOCK_WORDS];
+    let split = flamivorse::flamivorse_sha256_split_key(1, key, &mut shares, &words);
+    if split.number != 0 {
+        return false;
+    }
+    let made = flamivorse::flamivorse_hmac_sha256(1, &shares, data, tag, &words);
+    made.number == 0
+}
+
+// The tag by the hash that has digests of so many bytes, in front of what the room has.
+fn make_tag(size: usize, key: &[u8], data: &[u8], room: &mut [u8]) -> bool
+    requires { ⌜ length (now room) ≡ 32 ⌝ }
+{
+    if size == SHA1_TAG {
+        let front = &mut room[0..SHA1_TAG];
+        return sha1_tag(key, data, front);
+    }
+    sha256_tag(key, data, room)
+}
+
 // Writes the line of a case; whether its tag is the digest.
-fn run_case(line: u64, number: &[u8], key: &[u8], data: &[u8], digest: &[u8]) -> bool {
-    let mut tag = [0u8; TAG_BYTES];
-    if !make_tag(key, data, &mut tag) {
+fn run_case(line: u64, number: &[u8], key: &[u8], data: &[u8], digest: &[u8]) -> bool
+    requires { ⌜ length (now digest) ≤ 32 ⌝ }
+{
+    let mut room = [0u8; SHA256_TAG];
+    let size = digest.len();
+    if !make_tag(size, key, data, &mut room) {
         return lines::complain(line, b"the library refuses the case");
     }
-    lines::write_case(number, &tag, check::same(&tag, digest))
+    let tag = &room[0..size];
+    lines::write_case(number, tag, check::same(tag, digest))
+}
+
+// Whether a digest may have so many bytes.
+fn is_size(count: usize) -> bool {
+    if count == SHA1_TAG {
+        return true;
+    }
+    if count == SHORT_TAG {
+        return true;
+    }
+    count == SHA256_TAG
 }
 
 // Reads a line's digest, and runs its case.
 fn read_digest(line: u64, text: &[u8], key: &[u8], data: &[u8]) -> bool {
-    let mut digest = [0u8; TAG_BYTES];
-    let read = lines::hex_bytes(lines::field(text, 3), &mut digest);
+    let mut room = [0u8; SHA256_TAG];
+    let read = lines::hex_bytes(lines::field(text, 3), &mut room);
     if read.fault != FINE {
-        return lines::complain_of(line, b"digest", read.fault, TAG_BYTES);
+        return lines::complain_of(line, b"digest", read.fault, SHA256_TAG);
     }
-    if read.count != TAG_BYTES {
-        return lines::complain_of(line, b"digest", TOO_SHORT, TAG_BYTES);
+    if !is_size(read.count) {
+        return lines::complain_of(line, b"digest", TOO_SHORT, SHA256_TAG);
     }
     if lines::field(text, 4).len() != 0 {
         return lines::complain(line, b"more than four fields");
     }
-    run_case(line, lines::field(text, 0), key, data, &digest)
+    let end = read.count;
+    run_case(line, lines::field(text, 0), key, data, &room[..end])
 }
 
 // Reads a line's data, and then the rest.
@@ -141,11 +192,12 @@ fn run_file(name: &[u8], file: i32) {
     run_cases(&text[..end]);
 }
 
-fn main() {
+// Runs the file that an argument names.
+fn run_named(argument: usize) {
     let mut name = io::buffer();
-    let end = os::arg(1, &mut name);
+    let end = os::arg(argument, &mut name);
     if os::errno() != 0 {
-        os::fail(b"the first argument, a file of cases");
+        os::fail(b"two arguments, files of cases");
         return;
     }
     let file = os::open_read(&name[..end]);
@@ -155,4 +207,9 @@ fn main() {
     }
     run_file(&name[..end], file);
     libc::close(file);
+}
+
+fn main() {
+    run_named(1);
+    run_named(2);
 }
