@@ -1,7 +1,7 @@
-// Runs the test cases of RFC 2202, section 3, and of RFC 4231 for SHA-256, from the files that the first two arguments
-// name: for each case its number, its tag, and whether it is the file's digest. The digest's length says which hash it
-// is: 20 bytes are SHA-1's, 32 are SHA-256's, and 16 are the first ones of SHA-256's. A line that is no case is told with
-// its number. No random words: at one share none are drawn.
+// Runs the test cases of RFC 2202, section 3, and of RFC 4231 for SHA-256, from the files that the first two
+// arguments name: for each case its number, its tag, and whether it is the file's digest. The digest's length says
+// which hash it is: 20 bytes are SHA-1's, 32 are SHA-256's, and 16 are the first ones of SHA-256's. A line that is no
+// case is told with its number. No random words: at one share none are drawn.
 ghost use mathlib.Core.Path.{_≡_};
 ghost use Prim.Native.Nat.{_≤_};
 ghost use lib.ListN.{length};

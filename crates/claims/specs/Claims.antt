@@ -156,7 +156,8 @@ pub record HashFollows (code n : ℕ) : Type 0 where
       (splitKey (hashOf 32 code) n key) (splitKeyCall (hashOf 32 code) n key)
   pub hmac-follows : (key text : List ℕ)
       → Follows (Allowed n) (length key ≡ 16 * n) (digestBytes (standardOf 32 code)) (length text ≤ 65536)
-      (((length text + 8) / 64 + 4) * E code n) (hmacTag (hashOf 32 code) n key text) (hmacCall (hashOf 32 code) n key text)
+      (((length text + 8) / 64 + 4) * E code n) (hmacTag (hashOf 32 code) n key text)
+      (hmacCall (hashOf 32 code) n key text)
 
 pub hash-follows : (code n : ℕ) → HashFollows code n
 unfolding first test call
@@ -198,9 +199,9 @@ a2b-record-settles A r G came = record-settles 165 (a2bRecord 32 A r G) came
 pub record-lengths : (k x r G : ℕ) → 0 < k → (length (b2aRecord k x r G) ≡ 7) × (length (a2bRecord k x r G) ≡ 5 * k + 5)
 record-lengths k x r G h = (b2a-length k x r G, a2b-length k x r G h)
 
--- A compression: refused, the chain record exactly as given; accepted, the new chain with 0 after its words, 5n of SHA-1
--- and 8n of SHA-256, and E(n) words drawn. What the record has after these words, and the supply after those drawn, is
--- not looked at. (That a record has 80 or 128 places is its type's.)
+-- A compression: refused, the chain record exactly as given; accepted, the new chain with 0 after its words, 5n of
+-- SHA-1 and 8n of SHA-256, and E(n) words drawn. What the record has after these words, and the supply after those
+-- drawn, is not looked at. (That a record has 80 or 128 places is its type's.)
 module _ (code n : ℕ) (chain : List ℕ) (whole : length chain ≡ chainRoom (standardOf 32 code)) (block ws : List ℕ) where
   abbrev words : ℕ
   words = chainWords (standardOf 32 code)
@@ -400,7 +401,8 @@ module _ (code : ℕ) (s : State) (whole : Whole s) (ws : List ℕ) where
     feedsDraw = (s .bytes % 64 + length piece) / 64 * E code (s .n)
 
     pub feed-settles : Settles {A = State × ℕ}
-        (Asks (Fit (hashOf 32 code) s) 6 (Asks (s .bytes + length piece ≤ 65536) 4 (Asks (feedsDraw ≤ length ws) 5 Done)))
+        (Asks (Fit (hashOf 32 code) s) 6 (Asks (s .bytes + length piece ≤ 65536) 4 (Asks (feedsDraw ≤ length ws) 5
+        Done)))
         (fed .number) (feed (hashOf 32 code) s piece ws 0) (s, 0) (fed .state, fed .drawn)
     feed-settles = feed-outcome code s whole ws piece
 
@@ -421,7 +423,8 @@ module _ (code : ℕ) (s : State) (whole : Whole s) (ws : List ℕ) where
     -- accepted, only the finished mark is set
     pub finish-settles : (let made = finish (hashOf 32 code) s ws 0 in
         Settles {A = State × List ℕ × ℕ}
-        (Asks (Fit (hashOf 32 code) s) 6 (Asks (length came ≡ digestBytes (standardOf 32 code)) 3 (Asks (finishDraws ≤ length ws) 5 Done)))
+        (Asks (Fit (hashOf 32 code) s) 6 (Asks (length came ≡ digestBytes (standardOf 32 code)) 3
+        (Asks (finishDraws ≤ length ws) 5 Done)))
         (finished .0 .number) (closed s, made .0, made .1) (s, came, 0)
         (finished .0 .state, finished .1, finished .0 .drawn))
     finish-settles = finish-outcome code s whole ws came
@@ -465,7 +468,8 @@ module _ (k : ℕ) (wide : 0 < k) (code n : ℕ) (key ws : List ℕ)
 -- What a state carries, at every width: over any run of calls from an accepted start, accepted and refused, each on a
 -- state that an earlier one handed back. Its count is the words that start and feeds drew, and those are the rules' for
 -- the bytes taken; a refused call adds to neither. So it is fit until it is finished: 6 is never given for its count.
-module _ (k : ℕ) (wide : 0 < k) (code : ℕ) {n bytes words : ℕ} {s : State} (run : Reached (hashOf k code) n bytes words s) where
+module _ (k : ℕ) (wide : 0 < k) (code : ℕ) {n bytes words : ℕ} {s : State} (run : Reached (hashOf k code) n bytes
+    words s) where
   pub reached-counts : (s .n ≡ n) × (s .bytes ≡ bytes) × (s .drawn ≡ words)
       × (words ≡ (2 + bytes / 64) * hashOf k code .draws n)
   reached-counts =
@@ -485,7 +489,8 @@ module _ (k : ℕ) (wide : 0 < k) (code : ℕ) {n bytes words : ℕ} {s : State}
 pub state-draws : (code n bytes : ℕ) → stateDraws (hashOf 32 code) n bytes ≡ (2 + bytes / 64) * E code n
 state-draws code n bytes = state-count (hashOf 32 code) n bytes refl ∙ ap (λ d. (2 + bytes / 64) * d) (E-draws code n)
 
-pub finish-leaves-count : (code : ℕ) (s : State) (came ws : List ℕ) → finishCall (hashOf 32 code) s came ws .0 .state .drawn ≡ s .drawn
+pub finish-leaves-count : (code : ℕ) (s : State) (came ws : List ℕ) → finishCall (hashOf 32 code) s came ws .0 .state
+    .drawn ≡ s .drawn
 finish-leaves-count code = finished-count (hashOf 32 code)
 
 -- The tag: RFC 2104's of the opened key and the joined pieces, whatever the words are; so it is the one-call tag.
@@ -494,7 +499,8 @@ module _ (code n : ℕ) (key ws : List ℕ) (words : Words 32 key)
     (fs : Feeds) (bytes : Words 8 (message fs))
     (taken : Accepted (hashOf 32 code) (startCall (hashOf 32 code) n key ws .state) fs) where
   abbrev last : List ℕ → List ℕ → Streamed × List ℕ
-  last came vs = finishCall (hashOf 32 code) (after (hashOf 32 code) (startCall (hashOf 32 code) n key ws .state) fs) came vs
+  last came vs = finishCall (hashOf 32 code) (after (hashOf 32 code) (startCall (hashOf 32 code) n key ws .state) fs)
+      came vs
 
   pub streamed-tag-is-rfc2104 : (came vs : List ℕ) → last came vs .0 .number ≡ 0
       → last came vs .1 ≡ hmac (standardOf 32 code) (allBytes 4 (openWords n 16 key)) (message fs)
@@ -510,14 +516,16 @@ pub no-two-outcomes : {O : Type 0} (promised one other : O) → promised ≡ one
 no-two-outcomes = one-outcome
 
 pub no-two-tags : (code n : ℕ) (key text came ws tag tag′ : List ℕ) (answer answer′ : Answer)
-    → hmacCall (hashOf 32 code) n key text came ws ≡ (answer, tag) → hmacCall (hashOf 32 code) n key text came ws ≡ (answer′, tag′)
+    → hmacCall (hashOf 32 code) n key text came ws ≡ (answer, tag) → hmacCall (hashOf 32 code) n key text came ws
+    ≡ (answer′, tag′)
     → (answer ≡ answer′) × (tag ≡ tag′)
 no-two-tags code n key text came ws tag tag′ answer answer′ p q =
     let e = no-two-outcomes (hmacCall (hashOf 32 code) n key text came ws) (answer, tag) (answer′, tag′) p q in
     (ap (λ o. o .0) e, ap (λ o. o .1) e)
 
 pub no-two-finishes : (code : ℕ) (s : State) (came ws tag tag′ : List ℕ) (r r′ : Streamed)
-    → finishCall (hashOf 32 code) s came ws ≡ (r, tag) → finishCall (hashOf 32 code) s came ws ≡ (r′, tag′) → (r ≡ r′) × (tag ≡ tag′)
+    → finishCall (hashOf 32 code) s came ws ≡ (r, tag) → finishCall (hashOf 32 code) s came ws ≡ (r′, tag′)
+    → (r ≡ r′) × (tag ≡ tag′)
 no-two-finishes code s came ws tag tag′ r r′ p q =
     let e = no-two-outcomes (finishCall (hashOf 32 code) s came ws) (r, tag) (r′, tag′) p q in
     (ap (λ o. o .0) e, ap (λ o. o .1) e)

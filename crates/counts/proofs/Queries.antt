@@ -237,7 +237,8 @@ module _ (code n bytes drawn finished hash : ℕ) {inside : Bool}
   outside-unfit h = rw (sym is ∙ h)
 
   pub inside-fit : inside ≡ true → {count : ℕ} → count ≡ stateDraws (hashOf 32 code) n bytes
-      → both (eqb finished 0) (both (eqb hash code) (eqb drawn count)) ≡ fit (hashOf 32 code) n bytes drawn finished hash
+      → both (eqb finished 0) (both (eqb hash code) (eqb drawn count)) ≡ fit (hashOf 32 code) n bytes drawn finished
+      hash
   unfolding fit
   inside-fit h e = rw (sym is ∙ h, e)
 

@@ -195,7 +195,8 @@ fn compressions(message: usize) -> usize
 
 // HMAC of a message of so many bytes.
 pub fn hmac_words(code: u32, n: usize, message: usize) -> Answer
-    ensures { λ r. ⌜ query (test 1 (allowed n) ∷ test 4 (leb message longestMessage) ∷ []) (hmacDraws (hashOf 32 code) n message) ≡ r ⌝ }
+    ensures { λ r. ⌜ query (test 1 (allowed n) ∷ test 4 (leb message longestMessage) ∷ [])
+        (hmacDraws (hashOf 32 code) n message) ≡ r ⌝ }
 {
     let each = compress_words(code, n);
     let all = answer(each.number, compressions(message) * each.drawn);
@@ -235,7 +236,8 @@ fn key_draws(code: u32, n: usize, key: usize) -> usize
 
 // Splitting a key of so many bytes.
 pub fn key_words(code: u32, n: usize, key: usize) -> Answer
-    ensures { λ r. ⌜ query (test 1 (allowed n) ∷ test 4 (leb key longestKey) ∷ []) (keyDraws (hashOf 32 code) n key) ≡ r ⌝ }
+    ensures { λ r. ⌜ query (test 1 (allowed n) ∷ test 4 (leb key longestKey) ∷ []) (keyDraws (hashOf 32 code) n key)
+        ≡ r ⌝ }
 {
     let number = key_fitness(n, key);
     if number != DONE {

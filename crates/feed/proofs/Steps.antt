@@ -92,10 +92,12 @@ module _ (code n : ℕ) (ws text : List ℕ) (count : ℕ) (e : Run) where
       let place : 64 * j + 64 ≡ 64 * (j + 1) = omega arith in
       let rest : drop 64 (drop (64 * j) text) ≡ drop (64 * (j + 1)) text = drop-drop 64 (64 * j) text
       ∙ ap (λ t. drop t text) place in
-      rw (← rest) (sym (ap (λ (r : Run). fullBlocks (hash code) n (count - (j + 1)) (drop 64 (drop (64 * j) text)) (r .0) ws
+      rw (← rest) (sym (ap (λ (r : Run). fullBlocks (hash code) n (count - (j + 1)) (drop 64 (drop (64 * j) text))
+      (r .0) ws
       (r .1)) f) ∙ (rw m at inv))
 
-  pub full-end : (j p : ℕ) (g : List ℕ) → count ≤ j → fullBlocks (hash code) n (count - j) (drop (64 * j) text) g ws p ≡ e → e
+  pub full-end : (j p : ℕ) (g : List ℕ) → count ≤ j → fullBlocks (hash code) n (count - j) (drop (64 * j) text) g ws
+      p ≡ e → e
       ≡ (g, p)
   unfolding fullBlocks
   full-end j p g l inv = let m : count - j ≡ 0 = omega arith in sym (rw m at inv)

@@ -280,7 +280,8 @@ pub extern "C" fn flamivorse_hmac_sha1(
     tag: &mut [u8],
     words: &[u32],
 ) -> Answer
-    ensures { λ r. ⌜ hmacCall (sha1 32) n (now (key .entry)) (now (message .entry)) (now (tag .entry)) (now (words .entry))
+    ensures { λ r. ⌜ hmacCall (sha1 32) n (now (key .entry)) (now (message .entry)) (now (tag .entry))
+        (now (words .entry))
         ≡ (r, now (tag .exit)) ⌝ }
 {
     calls::tag(SHA1, n, key, message, tag, words)
@@ -359,7 +360,8 @@ pub extern "C" fn flamivorse_hmac_sha256(
     tag: &mut [u8],
     words: &[u32],
 ) -> Answer
-    ensures { λ r. ⌜ hmacCall (sha256 32) n (now (key .entry)) (now (message .entry)) (now (tag .entry)) (now (words .entry))
+    ensures { λ r. ⌜ hmacCall (sha256 32) n (now (key .entry)) (now (message .entry)) (now (tag .entry))
+        (now (words .entry))
         ≡ (r, now (tag .exit)) ⌝ }
 {
     calls::tag(SHA256, n, key, message, tag, words)

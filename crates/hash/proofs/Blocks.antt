@@ -16,7 +16,8 @@ Left code n ws W count j g p = blocks (hash code) n (count - j) (drop (j * (16 *
 
 module _ (code n : ℕ) (ws W : List ℕ) (count : ℕ) (e : Run) where
   pub blocks-next : (j p q : ℕ) (b g g1 : List ℕ) → j < count → hash code .compress n g b ws p ≡ (g1, q)
-      → b ≡ take (16 * n) (drop (j * (16 * n)) W) → Left code n ws W count j g p ≡ e → Left code n ws W count (j + 1) g1 q ≡ e
+      → b ≡ take (16 * n) (drop (j * (16 * n)) W) → Left code n ws W count j g p ≡ e → Left code n ws W count (j + 1)
+      g1 q ≡ e
   unfolding blocks
   blocks-next j p q b g g1 l f made inv =
       let m : count - j ≡ suc (count - (j + 1)) = omega arith in
@@ -24,7 +25,8 @@ module _ (code n : ℕ) (ws W : List ℕ) (count : ℕ) (e : Run) where
       let left = drop (16 * n) (drop (j * (16 * n)) W) in
       let rest : left ≡ drop ((j + 1) * (16 * n)) W = drop-drop (16 * n) (j * (16 * n)) W ∙ ap (λ t. drop t W) after in
       rw (← rest)
-      (sym (ap (λ (r : Run). blocks (hash code) n (count - (j + 1)) left (r .0) ws (r .1)) (rw made at f)) ∙ (rw m at inv))
+      (sym (ap (λ (r : Run). blocks (hash code) n (count - (j + 1)) left (r .0) ws (r .1)) (rw made at f))
+      ∙ (rw m at inv))
 
   pub blocks-begin : (m p : ℕ) (g : List ℕ) → count ≡ m → Left code n ws W count 0 g p ≡ blocks (hash code) n m W g ws p
   blocks-begin m p g f = rw (f, sub-zero m, zero-mul (16 * n))

@@ -6,7 +6,7 @@ use native.Mathlib.Nat.{sub-zero, mul-le-mul-left, mul-le-mul-right}
 use native.Mathlib.Omega.{arith}
 use mir.Syntax.{w64}
 use mir.Val.{Fits}
-use lib.ListN.{length, take, drop, replicate, length-append, length-drop, length-replicate, drop-of-length-le}
+use lib.ListN.{length, take, drop, replicate, length-append, length-drop, drop-of-length-le}
 use lib.Seq.{length-take-le, take-at, drop-at}
 use Rattle.rules.specs.declared.Sha256Chain.{Sha256Chain}
 use Rattle.rules.specs.Numbers.{largest}
@@ -157,7 +157,8 @@ module _ (code n end : ℕ) (is : end ≡ chainWords (standard code) * n) where
 
   pub cleared-made : (all C : List ℕ) → length (map (λ (v : ℕ). v) all) ≡ 128 → end ≤ 8 * n → n ≤ largest
       → C ≡ take end all ++ replicate (length all - end) 0
-      → _≡_ {A = Sha256Chain} (record { shares = C }) (record { shares = filled stateRoom (used (standard code) n all) })
+      → _≡_ {A = Sha256Chain} (record { shares = C })
+      (record { shares = filled stateRoom (used (standard code) n all) })
   cleared-made all C whole most low e =
       let size = array-length all whole in
       rw (e, behind-them all, in-use all (omega arith), size)

@@ -9,7 +9,7 @@ use lib.Bits.{bitXor}
 use lib.ListN.{length, getD, set, take, drop, replicate, length-append, length-drop, length-set, length-replicate}
 use lib.ListN.{take-append-drop}
 use lib.ListN.{drop-of-length-le, List·getD-append}
-use lib.Seq.{drop-cons, take-at, length-take-le, take-append-add, drop-append-add, take-nil, drop-nil, getD-append-add}
+use lib.Seq.{drop-cons, length-take-le, take-append-add, drop-append-add, take-nil, drop-nil, getD-append-add}
 use lib.Seq.{set-append-left}
 use Rattle.rules.specs.Shares.{each}
 use Rattle.rules.specs.Sha1.{public, publics}

@@ -111,7 +111,8 @@ fn compress_at(
     words: &[u32],
     at: usize,
 ) -> usize
-    requires { ⌜ (0 < n) × (n ≤ largest) × (length (now block) ≡ 16 * n) × (length (now z) ≡ chainWords (standard code) * n)
+    requires { ⌜ (0 < n) × (n ≤ largest) × (length (now block) ≡ 16 * n)
+        × (length (now z) ≡ chainWords (standard code) * n)
         × (at + hash code .draws n ≤ length (now words)) ⌝ }
     ensures { λ r. ⌜ (hash code .compress n (now (z .entry)) (now (block .entry)) (now (words .entry)) at
         ≡ (now (z .exit), r))
@@ -171,7 +172,8 @@ pub fn compress(
 // 0 from the place `end` on.
 fn clear_rest(end: usize, chain: &mut [u32])
     requires { ⌜ end ≤ length (now chain) ⌝ }
-    ensures { λ _. ⌜ now (chain .exit) ≡ take end (now (chain .entry)) ++ replicate (length (now (chain .entry)) - end) 0 ⌝ }
+    ensures { λ _. ⌜ now (chain .exit) ≡ take end (now (chain .entry))
+        ++ replicate (length (now (chain .entry)) - end) 0 ⌝ }
 {
     let room = chain.len();
     let rest = &mut chain[end..room];
@@ -200,7 +202,8 @@ fn compress_in(
     words: &[u32],
     at: usize,
 ) -> usize
-    requires { ⌜ (0 < n) × (n ≤ largest) × (length (now block) ≡ 16 * n) × (length (now chain) ≡ chainRoom (standard code))
+    requires { ⌜ (0 < n) × (n ≤ largest) × (length (now block) ≡ 16 * n)
+        × (length (now chain) ≡ chainRoom (standard code))
         × (at + hash code .draws n ≤ length (now words)) ⌝ }
     ensures { λ r. ⌜ compressed (hash code) n (now (chain .entry)) (now (block .entry)) (now (words .entry)) at
         ≡ (now (chain .exit), r) ⌝ }
@@ -220,7 +223,8 @@ pub fn compress_record(
     words: &[u32],
     at: usize,
 ) -> usize
-    requires { ⌜ (0 < n) × (n ≤ largest) × (length (now block) ≡ 16 * n) × (length (now chain) ≡ chainRoom (standard code))
+    requires { ⌜ (0 < n) × (n ≤ largest) × (length (now block) ≡ 16 * n)
+        × (length (now chain) ≡ chainRoom (standard code))
         × (at + hash code .draws n ≤ length (now words)) ⌝ }
     ensures { λ r. ⌜ compressed (hash code) n (now (chain .entry)) (now (block .entry)) (now (words .entry)) at
         ≡ (now (chain .exit), r) ⌝ }

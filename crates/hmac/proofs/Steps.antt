@@ -98,7 +98,8 @@ digest-made n inner d x z p few size e f =
 
 -- its padding, by the code
 pub sha1-padding : (code n : ℕ) (z : List ℕ) → code ≡ 0
-    → z ≡ publics n (0x80000000 ∷ 0 ∷ 0 ∷ 0 ∷ 0 ∷ 0 ∷ 0 ∷ 0 ∷ 0 ∷ 0 ∷ 672 ∷ []) → z ≡ publics n (digestPadding (standard code))
+    → z ≡ publics n (0x80000000 ∷ 0 ∷ 0 ∷ 0 ∷ 0 ∷ 0 ∷ 0 ∷ 0 ∷ 0 ∷ 0 ∷ 672 ∷ []) → z
+    ≡ publics n (digestPadding (standard code))
 unfolding wordsOf numberOf padding zeros bytesOf
 sha1-padding code n z is e = rw is e
 

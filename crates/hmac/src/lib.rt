@@ -65,7 +65,8 @@ pub fn key_step(
 pub fn public_block(n: usize, before: usize, text: &[u8], j: usize, z: &mut [u32])
     requires { ⌜ (0 < n) × (before % 64 ≡ 0) × Hashable (before + length (now text))
         × (j < blocksIn (length (now text))) × (length (now z) ≡ 16 * n) ⌝ }
-    ensures { λ _. ⌜ now (z .exit) ≡ publics n (take 16 (drop (16 * j) (ending (SHA1 32) before (now (text .entry))))) ⌝ }
+    ensures { λ _. ⌜ now (z .exit) ≡ publics n
+        (take 16 (drop (16 * j) (ending (SHA1 32) before (now (text .entry))))) ⌝ }
 {
     let mut values = [0u32; BLOCK_WORDS];
     block_words(before, text, j, &mut values);
@@ -85,9 +86,11 @@ pub fn text_step(
     at: usize,
 ) -> Stepped
     requires { ⌜ (0 < n) × (n ≤ largest) × (before % 64 ≡ 0) × Hashable (before + length (now text))
-        × (length (now block) ≡ 16 * n) × (at + blocksIn (length (now text)) * hash code .draws n ≤ length (now words)) ⌝ }
+        × (length (now block) ≡ 16 * n) × (at + blocksIn (length (now text)) * hash code .draws n ≤ length
+        (now words)) ⌝ }
     ensures { λ r. ⌜ (blocks (hash code) n (blocksIn (length (now (text .entry))))
-        (publics n (ending (standard code) before (now (text .entry)))) (used (standard code) n (chain .shares)) (now (words .entry)) at
+        (publics n (ending (standard code) before (now (text .entry)))) (used (standard code) n (chain .shares))
+        (now (words .entry)) at
         ≡ (used (standard code) n (r .chain .shares), r .at))
         × (r .at ≡ at + blocksIn (length (now (text .entry))) * hash code .draws n) ⌝ }
 {
@@ -197,7 +200,8 @@ fn outer_step(
 ) -> Stepped
     requires { ⌜ (0 < n) × (n ≤ largest) × (length (now key) ≡ 16 * n) × (length (now block) ≡ 16 * n)
         × (at + hash code .draws n + hash code .draws n ≤ length (now words)) ⌝ }
-    ensures { λ r. ⌜ (outerHash (hash code) n (now (key .entry)) (used (standard code) n (inner .shares)) (now (words .entry)) at
+    ensures { λ r. ⌜ (outerHash (hash code) n (now (key .entry)) (used (standard code) n (inner .shares))
+        (now (words .entry)) at
         ≡ (used (standard code) n (r .chain .shares), r .at))
         × (r .at ≡ at + hash code .draws n + hash code .draws n) ⌝ }
 {
@@ -218,7 +222,8 @@ fn hmac_shares(
 ) -> Stepped
     requires { ⌜ (0 < n) × (n ≤ largest) × (length (now key) ≡ 16 * n) × Hashable (64 + length (now text))
         × (length (now block) ≡ 16 * n) × (at + hmacDraws (hash code) n (length (now text)) ≤ length (now words)) ⌝ }
-    ensures { λ r. ⌜ (hmacShares (hash code) n (now (key .entry)) (now (text .entry)) (now (words .entry)) at ≡ (used (standard code) n (r .chain .shares), r .at))
+    ensures { λ r. ⌜ (hmacShares (hash code) n (now (key .entry)) (now (text .entry)) (now (words .entry)) at
+        ≡ (used (standard code) n (r .chain .shares), r .at))
         × (r .at ≡ at + hmacDraws (hash code) n (length (now (text .entry)))) ⌝ }
 {
     let inner = inner_step(code, n, key, text, block, words, at);
@@ -235,9 +240,11 @@ pub fn hmac_tag(
     words: &[u32],
     at: usize,
 ) -> usize
-    requires { ⌜ (0 < n) × (n ≤ largest) × (length (now key) ≡ 16 * n) × Hashable (64 + length (now text)) × (length (now tag) ≡ digestBytes (standard code))
+    requires { ⌜ (0 < n) × (n ≤ largest) × (length (now key) ≡ 16 * n) × Hashable (64 + length (now text))
+        × (length (now tag) ≡ digestBytes (standard code))
         × (at + hmacDraws (hash code) n (length (now text)) ≤ length (now words)) ⌝ }
-    ensures { λ r. ⌜ hmacTag (hash code) n (now (key .entry)) (now (text .entry)) (now (words .entry)) at ≡ (now (tag .exit), r) ⌝ }
+    ensures { λ r. ⌜ hmacTag (hash code) n (now (key .entry)) (now (text .entry)) (now (words .entry)) at
+        ≡ (now (tag .exit), r) ⌝ }
 {
     let end = BLOCK_WORDS * n;
     let mut block0 = [0u32; BLOCK];

@@ -19,7 +19,7 @@ use Rattle.rules.specs.Supply.{next, opened, split}
 use Rattle.rules.specs.Hash.{Hash, numberOf, filled}
 use Rattle.rules.specs.Standard.{SHA1}
 use Rattle.rules.specs.Sha1.{word}
-use Rattle.rules.specs.Hmac.{splits, keyWords, blocks}
+use Rattle.rules.specs.Hmac.{splits, keyWords}
 use Rattle.rules.proofs.Loops.{Run}
 use Rattle.rules.proofs.Rule.{next-rule}
 use Rattle.rules.proofs.Bytes.{length-words}

@@ -1,5 +1,5 @@
 -- A key of one block, and a longer one: its blocks with their padding, its digest, and how many words it draws.
-use Prim.Native.Nat.{ℕ, zero, _+_, _-_, _*_, _/_, _≤_, _<_}
+use Prim.Native.Nat.{ℕ, _+_, _-_, _*_, _/_, _≤_, _<_}
 use mathlib.Core.Path.{_≡_, refl, sym, ap, _∙_}
 use mathlib.Core.List.{List, _++_, map}
 use native.Mathlib.Omega.{arith}
@@ -68,11 +68,13 @@ module _ (n : ℕ) (some : 0 < n) (bytes : ℕ) (lasts ws : List ℕ) (at j : �
 
 -- ---- the digest's words, then zero shares
 pub digest-made : (code n m end : ℕ) (chain zs d : List ℕ) → end ≡ chainWords (standard code) * n
-    → length (map (λ (v : ℕ). v) chain) ≡ 128 → end ≤ 8 * n → n ≤ largest → m ≡ 16 * n → zs ≡ replicate m 0 → d ≡ take (end - 0) chain
+    → length (map (λ (v : ℕ). v) chain) ≡ 128 → end ≤ 8 * n → n ≤ largest → m ≡ 16 * n → zs ≡ replicate m 0 → d
+    ≡ take (end - 0) chain
     → d ++ drop (end - 0) zs ≡ filled (16 * n) (used (standard code) n chain)
 digest-made code n m end chain zs d is whole most low size e f =
     let long : length (used (standard code) n chain) ≡ end =
-    ap length (sym (lent code n end is chain)) ∙ lent-size code n end is chain (array-end n end chain whole most low) ∙ sym is in
+    ap length (sym (lent code n end is chain)) ∙ lent-size code n end is chain (array-end n end chain whole most low)
+    ∙ sym is in
     rw (e, f, lent code n end is chain, size, zeros-after (16 * n) end (omega arith), long)
 
 -- ---- hashed, from the chain that starts a hash
@@ -104,18 +106,21 @@ module _ (code n : ℕ) (key ws : List ℕ) (at : ℕ) where
 
   pub key-hashed : (m p : ℕ) (lasts : List ℕ) {d : List ℕ} {q : ℕ} → m ≡ count
       → lasts ≡ lastShares n (keyWords H m key) ws at
-      → p ≡ at + m * (n - 1) → blocks (hash code) n (blocksIn l) (padded n l (held n lasts ws at)) (publics n (standard code .start)) ws p ≡ (d, q)
+      → p ≡ at + m * (n - 1) → blocks (hash code) n (blocksIn l) (padded n l (held n lasts ws at))
+      (publics n (standard code .start)) ws p ≡ (d, q)
       → hashKey (hash code) n key ws at ≡ (filled (16 * n) d, q)
   unfolding hashKey
   key-hashed m p lasts {d} {q} e f g h =
       let vs = keyWords H count key in
       let many : length vs ≡ count = length-words 4 count (filled (count * 4) key) in
-      let made : blocks (hash code) n (blocksIn l) (padded n l (held n (lastShares n vs ws at) ws at)) (publics n (standard code .start)) ws
+      let made : blocks (hash code) n (blocksIn l) (padded n l (held n (lastShares n vs ws at) ws at))
+      (publics n (standard code .start)) ws
       (at + length vs * (n - 1)) ≡ (d, q) = rw many (rw (f, g, e) at h) in
       rw (splits-held n ws vs at, ← any-ending code 0 (replicate l 0), pad-blocks H (hash-proper 32 0) key, made)
 
   -- ---- by the length of the key
-  pub long-made : (d z : List ℕ) (q : ℕ) → hashKey (hash code) n key ws at ≡ (d, q) → z ≡ d → hashKey (hash code) n key ws at ≡ (z, q)
+  pub long-made : (d z : List ℕ) (q : ℕ) → hashKey (hash code) n key ws at ≡ (d, q) → z ≡ d
+      → hashKey (hash code) n key ws at ≡ (z, q)
   long-made d z q e f = e ∙ ap (λ (t : List ℕ). (t, q)) (sym f)
 
   module _ (short : l ≤ 64) where

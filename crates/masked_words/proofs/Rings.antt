@@ -1,5 +1,5 @@
--- The rounds of a hash over its state, a ring of c words: each puts one word anew, a second one over the last, and there
--- the ring begins from then on, one word lower.
+-- The rounds of a hash over its state, a ring of c words: each puts one word anew, a second one over the last, and
+-- there the ring begins from then on, one word lower.
 use Prim.Native.Nat.{ℕ, suc, _+_, _-_, _*_, _%_, _≤_, _<_}
 use mathlib.Core.Path.{_≡_, sym, ap, _∙_}
 use mathlib.Core.List.{List, _++_, append-assoc}

@@ -143,7 +143,8 @@ fn round_of(n: usize, t: usize, u: &mut [u32], s: &mut [u32], words: &[u32], at:
 pub fn rounds_at(n: usize, u: &mut [u32], s: &mut [u32], words: &[u32], at: usize) -> usize
     requires { ⌜ (0 < n) × (n ≤ largest) × (length (now u) ≡ 16 * n) × (length (now s) ≡ 5 * n)
         × (at + roundsAnds 32 80 0 * andDraws n ≤ length (now words)) ⌝ }
-    ensures { λ r. ⌜ (rounds (λ t. round 32 (add 32) n (t / 20)) n (schedule 32 n 64 (now (u .entry))) 80 0 (now (s .entry))
+    ensures { λ r. ⌜ (rounds (λ t. round 32 (add 32) n (t / 20)) n (schedule 32 n 64 (now (u .entry))) 80 0
+        (now (s .entry))
         (now (words .entry)) at
         ≡ (now (s .exit), r))
         × (r ≡ at + roundsAnds 32 80 0 * andDraws n) ⌝ }

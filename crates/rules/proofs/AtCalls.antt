@@ -76,7 +76,8 @@ module _ (code n l : ℕ) where
   pub long-count : 64 < l
       → keyDraws (hashOf 32 code) n l ≡ (l + 3) / 4 * (n - 1) + ((l + 8) / 64 + 1) * eachDraws code n
   long-count h =
-      long-draws (hashOf 32 code) n l h ∙ ap (λ d. (l + 3) / 4 * (n - 1) + ((l + 8) / 64 + 1) * d) (compress-count code n)
+      long-draws (hashOf 32 code) n l h ∙ ap (λ d. (l + 3) / 4 * (n - 1) + ((l + 8) / 64 + 1) * d)
+      (compress-count code n)
 
 -- ---- the rules that draw a word for each share or pair
 pub refresh-law : (n : ℕ) (x : List ℕ) → length x ≡ n → Rule (n * (n - 1) / 2) (Shares n (opened x)) (refresh x)
@@ -182,7 +183,8 @@ module _ (code n : ℕ) (count : Allowed n) where
   pub split-opens : (key : List ℕ) → Words 8 key → (ws : List ℕ)
       → openWords n 16 (splitKey M n key ws 0 .0) ≡ wordsOf 4 16 (keyBlock H key)
   split-opens key keys ws =
-      splitKey-opens M n (count .0) (hash-proper 32 code) (hash-chains code) (hash-opens code n (count .0)) key ws 0 keys
+      splitKey-opens M n (count .0) (hash-proper 32 code) (hash-chains code) (hash-opens code n (count .0)) key ws 0
+      keys
 
   pub tags : (key text : List ℕ) → Words 8 key → Words 8 text → (ws : List ℕ)
       → Makes 32 (hmacCall M n (splitKey M n key ws 0 .0) text) (λ tag. tag ≡ hmac H key text)
@@ -249,7 +251,8 @@ module _ (code n : ℕ) (chain block : List ℕ) (whole : length chain ≡ chain
         (Asks (Allowed n) 1 (Asks (length block ≡ 16 * n) 2 (Asks (eachDraws code n ≤ length ws) 5 Done)))
         (o .0 .number) (compressed C n chain block ws 0) (chain, 0) (o .1, o .0 .drawn)
     compress-outcome =
-        call-settles 0 1 (eachDraws code n) (compressed C n chain block) (says-count n) (says-eq (length block) (16 * n))
+        call-settles 0 1 (eachDraws code n) (compressed C n chain block) (says-count n)
+        (says-eq (length block) (16 * n))
         compress-law chain ws
 
     module _ (accepted : o .0 .number ≡ 0) where
@@ -286,7 +289,8 @@ module _ (code n : ℕ) (chain block : List ℕ) (whole : length chain ≡ chain
           rw accepted
           (open-front n m made (replicate (chainRoom (standardOf 32 code) - m * n) 0) (goods-size (keeps .size) g)
           ∙ goods-open (λ x X g. (g .0, g .1)) g
-          ∙ ap (λ t. standardOf 32 code .compress t (openWords n 16 block)) (open-used (standardOf 32 code) n chain size))
+          ∙ ap (λ t. standardOf 32 code .compress t (openWords n 16 block)) (open-used (standardOf 32 code) n chain
+          size))
 
 -- ---- two shares
 pub xor-off : (a b : ℕ) → bitXor (bitXor a b) b ≡ a

@@ -20,7 +20,8 @@ use Rattle.rules.specs.Sha1.{openWords}
 use Rattle.rules.specs.Hmac.{Masked}
 use Rattle.rules.specs.Counts.{startDraws, compressions, standardOf, hashOf}
 use Rattle.rules.specs.Calls.{call, hmacCall}
-use Rattle.rules.specs.Stream.{stateRoom, Feeds, isFit, state, stateOfZeros, start, feed, finish, streamed, startCall}
+use Rattle.rules.specs.Stream.{stateRoom, Feeds, isFit, state, stateOfZeros, start, feed, finish, streamed}
+use Rattle.rules.specs.Stream.{startCall}
 use Rattle.rules.specs.Stream.{feedCall, finishCall, closed, ReadAlike, message, after, drawn, Accepted}
 use Rattle.rules.specs.Outcome.{Allowed, Fit, Whole, Asks, Done, Settles}
 use Rattle.rules.proofs.Rule.{said, counted}
@@ -327,7 +328,8 @@ module _ (code : ℕ) where
       abbrev finish-words : ℕ
       finish-words = ((s .bytes % 64 + 8) / 64 + 2) * d (s .n)
 
-      finish-law : Fit M s → length came ≡ digestBytes J → Rule finish-words (λ t. length t ≡ digestBytes J) (finish M s)
+      finish-law : Fit M s → length came ≡ digestBytes J → Rule finish-words (λ t. length t ≡ digestBytes J)
+          (finish M s)
       finish-law fit size =
           counted
           (finish-sized M s (fit-some fit) (hash-size 32 (lit< tt) code (s .n) (fit-some fit)) refl (fit-few fit) whole

@@ -1,5 +1,5 @@
--- Masked compressions, once for all that is said of them: `Good x X` is what is kept of the shares x of the word X. What
--- SHA-1's and SHA-256's have in common: the sum of a round, the rounds, words of the schedule, the new chain.
+-- Masked compressions, once for all that is said of them: `Good x X` is what is kept of the shares x of the word X.
+-- What SHA-1's and SHA-256's have in common: the sum of a round, the rounds, words of the schedule, the new chain.
 use Prim.Native.Nat.{ℕ, zero, suc, _+_, _-_, _*_, _/_, _^_, _≤_, _<_}
 use mathlib.Core.Path.{_≡_, sym, ap₂, _∙_, subst}
 use mathlib.Core.Bool.{Bool, true}
@@ -95,7 +95,12 @@ module _ {k n d : ℕ} {adder : Adder} {Fits : ℕ → Type 0} {Good : List ℕ 
     sums-next : (i : ℕ) → i < c
         → sumsOf k (drop i H) (drop i S) ≡ plus k (getD H i 0) (getD S i 0) ∷ sumsOf k (drop (i + 1) H) (drop (i + 1) S)
     unfolding sumsOf
-    sums-next i l = rw (add-one i, drop-cons H i 0 (omega (arith, how-many gh)), drop-cons S i 0 (omega (arith, how-many gs)))
+    sums-next i l = rw (
+      add-one i,
+      drop-cons H i 0 (omega (arith, how-many gh)),
+      drop-cons S i 0
+          (omega (arith, how-many gs)),
+    )
 
     sums-end : sumsOf k (drop c H) (drop c S) ≡ []
     unfolding sumsOf
@@ -111,4 +116,5 @@ module _ {k n d : ℕ} {adder : Adder} {Fits : ℕ → Type 0} {Good : List ℕ 
     sums-rule (suc m) i z Z e g =
         let sum = keeps .adds (part i (omega arith) gh) (part i (omega arith) gs) in
         rw (sums-next i (omega arith), ← append-snoc Z)
-        (counted (bind sum (λ x gx. sums-rule m (i + 1) (z ++ x) _ (omega arith) (join g (one gx)))) (omega (arith, suc-mul m d)))
+        (counted (bind sum (λ x gx. sums-rule m (i + 1) (z ++ x) _ (omega arith) (join g (one gx))))
+        (omega (arith, suc-mul m d)))

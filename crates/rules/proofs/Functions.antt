@@ -1,5 +1,5 @@
--- The functions, the rotation and the shift of the hashes: what the masked rules make of shares, and that it is what the standard
--- makes of words.
+-- The functions, the rotation and the shift of the hashes: what the masked rules make of shares, and that it is what
+-- the standard makes of words.
 use Prim.Native.Nat.{ℕ, zero, suc, _+_, _-_, _*_, _/_, _%_, _^_, _≤_, _<_}
 use mathlib.Core.Path.{_≡_, refl, sym, ap, ap₂, _∙_}
 use mathlib.Core.List.{List, [], _∷_, map}

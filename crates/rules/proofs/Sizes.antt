@@ -61,7 +61,8 @@ module _ {k n : ℕ} (ands : ℕ) {adder : Adder} {Fits : ℕ → Type 0} {Good 
     (splits : (v : ℕ) → Fits v → Rule (n - 1) (λ x. Good x v) (split n v)) where
   compresses : (code : ℕ) {h C block B : List ℕ} → (let M = hashBy k adder ands code in
       Goods Good (chainWords (M .standard)) h C → Goods Good 16 block B
-      → Rule (M .draws n) (λ z. Goods Good (chainWords (M .standard)) z (M .standard .compress C B)) (M .compress n h block))
+      → Rule (M .draws n) (λ z. Goods Good (chainWords (M .standard)) z (M .standard .compress C B))
+      (M .compress n h block))
   compresses zero gh gb = counted (sha1-rule keeps gh gb) (sha1-is ands n)
   compresses (suc code) gh gb = counted (sha256-rule keeps gh gb) (sha256-is ands n)
 

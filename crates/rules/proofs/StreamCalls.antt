@@ -20,7 +20,8 @@ use Rattle.rules.specs.Hash.{Hash, blockBytes, chainWords, digestBytes}
 use Rattle.rules.specs.Sha1.{openWords}
 use Rattle.rules.specs.Hmac.{Masked}
 use Rattle.rules.specs.Counts.{startDraws, feedDraws, finishDraws, standardOf, hashOf}
-use Rattle.rules.specs.Stream.{stateRoom, inUse, waiting, fit, isFit, stateOfZeros, start, feed, finish, startWords}
+use Rattle.rules.specs.Stream.{stateRoom, inUse, waiting, fit, isFit, stateOfZeros, start, feed, finish}
+use Rattle.rules.specs.Stream.{startWords}
 use Rattle.rules.specs.Stream.{feedWords, finishWords}
 use Rattle.rules.specs.Stream.{streamed, startCall, feedCall, fedAnswer, finishCall, closed}
 use Rattle.rules.specs.Calls.{query}
@@ -138,7 +139,8 @@ module _ (code : ℕ) where
         (is : number ≡ also (also (q .number) (test 3 (eqb tag tagSize))) (test 5 (leb (q .drawn) have))) where
       finish-tests : first (test 6 taken-so ∷ test 3 (eqb tag tagSize) ∷ test 5 (leb (q .drawn) have) ∷ []) ≡ number
       finish-tests =
-          let two = one-more (_ ∷ []) (test 3 (eqb tag tagSize)) (q .number) _ (ap (λ (a : Answer). a .number) e) refl in
+          let two = one-more (_ ∷ []) (test 3 (eqb tag tagSize)) (q .number) _ (ap (λ (a : Answer). a .number) e)
+          refl in
           one-more (_ ∷ _ ∷ []) _ _ number two is
 
       pub finish-ready : number ≡ 0
@@ -222,7 +224,8 @@ module _ (code : ℕ) where
 
     -- ---- a finish: refused, with the state and the tag's bytes as they came, or done
     module _ (came : List ℕ) (number : ℕ) (e : finishWords M s ≡ q)
-        (is : number ≡ also (also (q .number) (test 3 (eqb (length came) tagSize))) (test 5 (leb (q .drawn) (length ws))))
+        (is : number ≡ also (also (q .number) (test 3 (eqb (length came) tagSize)))
+        (test 5 (leb (q .drawn) (length ws))))
         (r : Streamed) where
       finished-number :
           first (test 6 (isFit M s) ∷ test 3 (eqb (length came) tagSize) ∷ test 5 (leb (q .drawn) (length ws)) ∷ [])

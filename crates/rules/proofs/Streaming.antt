@@ -12,7 +12,8 @@ use Rattle.rules.specs.Hash.{Hash, blockBytes, chainWords, wordsOf, endi
 use Rattle.rules.specs.Sha1.{publics}
 use Rattle.rules.specs.Hmac.{Masked, digestPadding, tagOf}
 use Rattle.rules.specs.Counts.{startDraws, feedDraws, finishDraws, stateDraws}
-use Rattle.rules.specs.Stream.{stateRoom, inUse, waiting, ReadAlike, state, start, fedFrom, finishedFrom, fullBlocks, feed, finish}
+use Rattle.rules.specs.Stream.{stateRoom, inUse, waiting, ReadAlike, state, start, fedFrom, finishedFrom}
+use Rattle.rules.specs.Stream.{fullBlocks, feed, finish}
 use Rattle.rules.specs.Outcome.{Whole}
 use Rattle.rules.proofs.Rule.{give, bind, said, counted}
 use Rattle.rules.proofs.Bytes.{length-words, words-front, words-split}

@@ -70,17 +70,18 @@ words-sums k (x ∷ h) (y ∷ s) zero = plus-lt k x y
 words-sums k (x ∷ h) (y ∷ s) (suc i) = words-sums k h s i
 
 -- a round of so many words makes as many
-module _ {words : ℕ} (round : ℕ → ℕ → List ℕ → List ℕ) (size : (t w : ℕ) (s : List ℕ) → length (round t w s) ≡ words) where
-  length-rounds : (m t : ℕ) (W s : List ℕ) → length s ≡ words → length (rounds round W m t s) ≡ words
-  unfolding rounds
-  length-rounds zero t W s h = h
-  length-rounds (suc m) t W s h = length-rounds m (t + 1) W _ (size t (getD W t 0) s)
+module _ {words : ℕ} (round : ℕ → ℕ → List ℕ → List ℕ) (size : (t w : ℕ) (s : List ℕ) → length (round t w s) ≡ words)
+  where
+    length-rounds : (m t : ℕ) (W s : List ℕ) → length s ≡ words → length (rounds round W m t s) ≡ words
+    unfolding rounds
+    length-rounds zero t W s h = h
+    length-rounds (suc m) t W s h = length-rounds m (t + 1) W _ (size t (getD W t 0) s)
 
-  chained : (k m : ℕ) (W h : List ℕ) → length h ≡ words
-      → (let z = sums k h (rounds round W m 0 h) in (length z ≡ words) × Words k z)
-  chained k m W h l =
-      let s = rounds round W m 0 h in
-      (length-sums k h s (length-rounds m 0 W h l ∙ sym l) ∙ l, words-sums k h s)
+    chained : (k m : ℕ) (W h : List ℕ) → length h ≡ words
+        → (let z = sums k h (rounds round W m 0 h) in (length z ≡ words) × Words k z)
+    chained k m W h l =
+        let s = rounds round W m 0 h in
+        (length-sums k h s (length-rounds m 0 W h l ∙ sym l) ∙ l, words-sums k h s)
 
 pub hash-chains : (code : ℕ) → Chains (standardOf 32 code)
 unfolding compress compress256 round round256
@@ -103,7 +104,8 @@ hash-proper k code =
       short = short code;
     }
   where
-    rest : (code : ℕ) → (let H = standardOf k code in length (padding H (blockBytes H + digestBytes H)) ≡ (16 - chainWords H) * 4)
+    rest : (code : ℕ) → (let H = standardOf k code in length (padding H (blockBytes H + digestBytes H))
+        ≡ (16 - chainWords H) * 4)
     rest zero = omega (arith, padded k 0 84)
     rest (suc code) = omega (arith, padded k (suc code) 96)
 

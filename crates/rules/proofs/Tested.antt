@@ -243,7 +243,8 @@ module _ (code n : ℕ) (came ws : List ℕ) (q : Answer) where
   pub hmacTag-needs : (key text : List ℕ)
       → first
       (test 1 (allowed n) ∷ test 2 (eqb (length key) (16 * n))
-      ∷ test 3 (eqb (length came) (digestBytes (standardOf 32 code))) ∷ test 4 (leb (length text) longestMessage) ∷ []) ≡ 0
+      ∷ test 3 (eqb (length came) (digestBytes (standardOf 32 code))) ∷ test 4 (leb (length text) longestMessage)
+      ∷ []) ≡ 0
       → query (test 1 (allowed n) ∷ test 4 (leb (length text) longestMessage) ∷ []) (hmacDraws M n (length text)) ≡ q
       → hmacTag M n key text ws 0 .1 ≡ q .drawn
   hmacTag-needs key text h e =

@@ -72,8 +72,8 @@ compressAnds a = roundsAnds a 80 0 + 5 * a
 abbrev pub compressDraws : Width → Count → ℕ
 compressDraws k n = compressAnds k * andDraws n
 
--- request (vii): SHA-256 makes three additions for each of 48 schedule words, two ANDs and seven additions in each of 64
--- rounds, and eight at the end
+-- request (vii): SHA-256 makes three additions for each of 48 schedule words, two ANDs and seven additions in each of
+-- 64 rounds, and eight at the end
 abbrev pub compress256Ands : ℕ → ℕ
 compress256Ands a = 48 * (3 * a) + 64 * (2 + 7 * a) + 8 * a
 

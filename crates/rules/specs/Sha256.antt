@@ -1,7 +1,7 @@
 -- Request (vii): masked SHA-256, over words of k bits in n shares each, with the words, the functions and the sums of
 -- masked SHA-1. The addition of shares is a parameter.
 use Prim.Native.Nat.{ℕ, zero, suc, _-_, _/_, _^_}
-use mathlib.Core.List.{List, [], _++_, map}
+use mathlib.Core.List.{[], _++_, map}
 use lib.Bits.{bitXor}
 use Rattle.words.specs.Word.{Width, Word}
 use Rattle.rules.specs.Supply.{Draw, Count, Sharing}

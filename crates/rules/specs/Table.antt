@@ -11,7 +11,7 @@ use Rattle.rules.specs.Shares.{each, pass, along, order, column, refresh
 use Rattle.rules.specs.Convert.{powerTo, widen, halved, toBoolIn, toBool, toArith}
 use Rattle.rules.specs.Short.{psis, joined, summed, shorter, shortOf, toArithShort}
 use Rattle.rules.specs.Counts.{andDraws, addDraws, toBoolDrawsIn, toBoolDraws, quarterAnds, roundsAnds}
-use Rattle.rules.specs.Counts.{compressAnds, hmacDraws, sha1}
+use Rattle.rules.specs.Counts.{compressAnds, hmacDraws, sha1, sha256}
 
 pub record Row : Type 0 where
   pub given : List ℕ
@@ -64,6 +64,8 @@ table =
     -- and at 2 bits arithmetic to Boolean of (1, 2, 3) with 2, 1, 3, 1, 0, 3, 2, 1, 1, 3, 0, 2, 1, 2
     row (toBool (add 2) (1 ∷ 2 ∷ 3 ∷ [])
     (2 ∷ 1 ∷ 3 ∷ 1 ∷ 0 ∷ 3 ∷ 2 ∷ 1 ∷ 1 ∷ 3 ∷ 0 ∷ 2 ∷ 1 ∷ 2 ∷ []) 0 .0) (0 ∷ 0 ∷ 2 ∷ []) ∷
+    -- request (vii): HMAC-SHA-256 at 2 shares, of 55 and of 56 bytes, by the closed form as P11
+    row (map (hmacDraws (sha256 32) 2) (55 ∷ 56 ∷ [])) (77312 ∷ 96640 ∷ []) ∷
     []
 
 pub reference : map (λ (r : Row). r .given) table ≡ map (λ (r : Row). r .stated) table

@@ -27,8 +27,8 @@ pub const SHA256_CHAIN_WORDS: usize = 8;
 
 pub const SHA256_ROUNDS: usize = 64;
 
-// Room for the words of the longest key; and for a block, for a chain of SHA-1 and for one of SHA-256, at the largest share
-// count.
+// Room for the words of the longest key; and for a block, for a chain of SHA-1 and for one of SHA-256, at the largest
+// share count.
 pub const KEY: usize = LONGEST_KEY / WORD_BYTES;
 
 pub const BLOCK: usize = BLOCK_WORDS * LARGEST;

@@ -45,7 +45,8 @@ fn sum_of(
 fn following_at(n: usize, t: usize, u: &[u32], z: &mut [u32], words: &[u32], at: usize) -> usize
     requires { ⌜ (16 ≤ t) × (t < 64) × (n ≤ largest) × (length (now u) ≡ 64 * n) × (length (now z) ≡ n)
         × (at + 96 * andDraws n ≤ length (now words)) ⌝ }
-    ensures { λ r. ⌜ (following 32 (add 32) n (firsts n t (now (u .entry))) (now (words .entry)) at ≡ (now (z .exit), r))
+    ensures { λ r. ⌜ (following 32 (add 32) n (firsts n t (now (u .entry))) (now (words .entry)) at
+        ≡ (now (z .exit), r))
         × (r ≡ at + 96 * andDraws n) × (length (now (z .exit)) ≡ n) ⌝ }
 {
     sum_of(

@@ -11,7 +11,8 @@ use Rattle.rules.proofs.Loops.{Run}
 
 -- ---- compress_at: the rounds over a copy of the chain, and the sums
 pub compress-made : (k : ℕ) (add : Adder) (n : ℕ) (block ws h g s : List ℕ) (at p : ℕ) (o : Run) → g ≡ h
-    → rounds (λ t. round k add n (t / 20)) n (schedule k n 64 block) 80 0 g ws at ≡ (s, p) → sums add n h s 5 0 [] ws p ≡ o
+    → rounds (λ t. round k add n (t / 20)) n (schedule k n 64 block) 80 0 g ws at ≡ (s, p) → sums add n h s 5 0 [] ws
+    p ≡ o
     → compress k add n h block ws at ≡ o
 unfolding compress
 compress-made k add n block ws h g s at p o e f i = rw (← e, f) (rw (← e) at i)

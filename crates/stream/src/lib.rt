@@ -37,7 +37,8 @@ pub fn start_at(code: u32, n: usize, key: &[u32], words: &[u32], at: usize) -> M
 // The rest of the message with its padding, then the digest block, from the word at `at` on: the tag, and the place
 // after.
 pub fn finish_at(code: u32, state: State, tag: &mut [u8], words: &[u32], at: usize) -> usize
-    requires { ⌜ (0 < state .n) × (state .n ≤ largest) × (state .bytes ≤ longestMessage) × (length (now tag) ≡ digestBytes (standard code))
+    requires { ⌜ (0 < state .n) × (state .n ≤ largest) × (state .bytes ≤ longestMessage)
+        × (length (now tag) ≡ digestBytes (standard code))
         × (at + finishDraws (hash code) (state .n) (state .bytes) ≤ length (now words)) ⌝ }
     ensures { λ r. ⌜ (finish (hash code) state (now (words .entry)) at ≡ (now (tag .exit), r))
         × (r ≡ at + finishDraws (hash code) (state .n) (state .bytes)) ⌝ }

@@ -65,5 +65,6 @@ module _ (code n m end : ℕ) (words : m ≡ chainWords (standard code)) where
   tag-size l e = rw words e
 
   pub tag-opened : (chain tag : List ℕ) → end ≡ chainWords (standard code) * n
-      → tag ≡ allBytes 4 (openWords n m (take (end - 0) chain)) → tag ≡ tagOf (standard code) n (used (standard code) n chain)
+      → tag ≡ allBytes 4 (openWords n m (take (end - 0) chain)) → tag ≡ tagOf (standard code) n
+      (used (standard code) n chain)
   tag-opened chain tag is e = e ∙ rw (words, lent code n end is chain)

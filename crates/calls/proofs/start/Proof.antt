@@ -10,7 +10,8 @@ returns : tie.Need-returns
 returns c =
     let before = c .before .before .before .before in
     let a = before .before .before .before .args in
-    start-refused (a .code) (a .n) (a .key .now) (a .words .now) _ _ (before .start-words .ensures) (c .before .before .before .compressing .ensures)
+    start-refused (a .code) (a .n) (a .key .now) (a .words .now) _ _ (before .start-words .ensures)
+    (c .before .before .before .compressing .ensures)
     (c .before .before .if1 .taken)
     ∙ sym (rw (c .before .zeros .ensures) at (c .streamed .ensures))
 
@@ -23,7 +24,8 @@ returns-2 : tie.Need-returns-2
 returns-2 c =
     let before = c .before .before .before .before in
     let a = before .before .before .before .before .args in
-    start-done (a .code) (a .n) (a .key .now) (a .words .now) _ _ (before .before .start-words .ensures) (before .compressing .ensures)
+    start-done (a .code) (a .n) (a .key .now) (a .words .now) _ _ (before .before .start-words .ensures)
+    (before .compressing .ensures)
     (c .before .before .before .if1 .left)
     _ _ (c .before .before .start-at .ensures)
     ∙ sym (c .streamed2 .ensures)

@@ -17,7 +17,8 @@ mul-result c =
 returns : tie.Need-returns
 returns c =
     let counted : allowed (c .before .before .args .n) ≡ true = search needs in
-    ap (λ d. c .before .before .args .count * d) (sym (compress-told (c .before .before .args .code) _ _ (c .before .compress-words .ensures) counted))
+    ap (λ d. c .before .before .args .count * d)
+    (sym (compress-told (c .before .before .args .code) _ _ (c .before .compress-words .ensures) counted))
 
 pub compressions-words-spec : {M : Type 1} → statement M
 compressions-words-spec =

@@ -22,7 +22,8 @@ returns : tie.Need-returns
 returns c =
     let s = c .before .before .before in
     let a = s .before .before .args in
-    query-blocks (a .n) (compressions (SHA1 32) (a .message)) _ (hashOf 32 (a .code) .draws (a .n)) (leb (a .message) longestMessage) _
+    query-blocks (a .n) (compressions (SHA1 32) (a .message)) _ (hashOf 32 (a .code) .draws (a .n))
+    (leb (a .message) longestMessage) _
     (s .before .compress-words .ensures)
     (s .compressions .ensures .1)
     ∙ rw (c .before .answer .ensures) at (c .by-text .ensures)

@@ -14,7 +14,8 @@ mul-result c =
 add-result : tie.Need-add-result
 add-result c =
     let s = c .before .before in
-    let sum = key-sum (s .args .code) (s .args .n) (s .args .key) (s .pre .0) (s .pre .1) _ _ (c .compressions-words .ensures) in
+    let sum = key-sum (s .args .code) (s .args .n) (s .args .key) (s .pre .0) (s .pre .1) _ _
+    (c .compressions-words .ensures) in
     record { fits = sum (omega (arith, s .pre .1)) }
 
 pub key-draws-spec : {M : Type 1} → statement M

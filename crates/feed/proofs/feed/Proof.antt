@@ -7,7 +7,8 @@ use Rattle.feed.proofs.feed.Tie as tie
 feed-at-requires : tie.Need-feed-at-requires
 feed-at-requires c κs =
     let a = c .before .before .before .before .before .args in
-    feed-ready (a .code) _ _ (a .state .drawn) (a .state .finished) (a .state .hash) _ _ _ _ (c .before .before .feed-words .ensures) (c .before .feeding .ensures) (c .if1 .left)
+    feed-ready (a .code) _ _ (a .state .drawn) (a .state .finished) (a .state .hash) _ _ _ _
+    (c .before .before .feed-words .ensures) (c .before .feeding .ensures) (c .if1 .left)
 
 pub feed-spec : {M : Type 1} → statement M
 feed-spec = tie.close (tie.spec (λ c κs. search needs) (λ c κs. search needs)

@@ -15,7 +15,8 @@ use Rattle.feed.proofs.full_blocks.Tie as tie
 abbrev Inv-loop : tie.InvT-loop
 Inv-loop code n tail piece words at end block₀ count c₀ p₀ j₀ block c p j =
     let text = tail ++ piece in
-    (j ≤ count) × (length block ≡ 16 * n) × (count ≡ (length tail + length piece) / 64) × (p ≡ at + j * hash code .draws n)
+    (j ≤ count) × (length block ≡ 16 * n) × (count ≡ (length tail + length piece) / 64)
+    × (p ≡ at + j * hash code .draws n)
     × (fullBlocks (hash code) n (count - j) (drop (64 * j) text) (used (standard code) n (c .shares)) words p
     ≡ fullBlocks (hash code) n ((length tail + length piece) / 64) text (used (standard code) n (c₀ .shares)) words at)
 
