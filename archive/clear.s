@@ -32,7 +32,7 @@ private_fill:
 
     .globl flamivorse_clear_stack
     .type flamivorse_clear_stack, @function
-    .equ BELOW, 8192        # bytes: more than any call takes (probe/left.py), with room for the frame that made it
+    .equ BELOW, 16384       # bytes: more than any call takes (probe/left.py), with room for the frame that made it
 
 # () -> nothing: zeros in the stack below the caller, and in every register that a call may leave changed
 flamivorse_clear_stack:

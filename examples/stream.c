@@ -8,12 +8,15 @@
  * to 17 compressions at once, and there is no room for so many here. Its SHA-1 digest may stand for it: the tags are
  * the same. The random words come from /dev/urandom, and each is used once.
  *
- * Memory, whatever the log's length: 126,400 bytes of data (.bss, as size tells) and 8,264 of stack (painted before a
+ * Memory, whatever the log's length: 126,784 bytes of data (.bss, as size tells) and 16,456 of stack (painted before a
  * run and looked at after it), beside the code and what the C library takes for its files. Of the data 125,280 bytes
  * are the words of one call. At two shares a compression draws 41,760 bytes of words, a start two compressions and a
  * finish two or three, and a call needs all its words at once: so this does not fit into 64 KiB. Feeding alone does,
- * with words for one compression, by 42,880 and 8,264 bytes: where there is no more room than that, the state has to
- * be started and finished elsewhere. It is as secret as the key. */
+ * with words for one compression, by 43,264 and 16,456 bytes: where there is no more room than that, the state has to
+ * be started and finished elsewhere. It is as secret as the key.
+ *
+ * HMAC-SHA-256 goes by its own calls in the same way, with a tag of 32 bytes. There a compression draws 77,312 bytes of
+ * words, and feeding alone does not fit either. */
 #include <flamivorse.h>
 #include <stdio.h>
 #include <stdlib.h>

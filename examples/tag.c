@@ -4,6 +4,8 @@
  *   ./tag examples/box.key examples/trial.log
  *
  * The key is the bytes of its file, at most 1,024. The random words come from /dev/urandom, and each is used once.
+ * For HMAC-SHA-256 the calls are flamivorse_sha256_split_key and flamivorse_hmac_sha256, with their queries, and the
+ * tag has 32 bytes.
  *
  * A call needs all its words at once. The key takes 192 bytes of them, or where it has more than 64 bytes and is hashed
  * up to 4.3 MB, and they are given back before the log's are made. A log of 4,096 bytes takes 17 MB, the longest, of
@@ -39,7 +41,8 @@ static void clear(void *memory, size_t size)
         bytes[--size] = 0;
 }
 
-/* Reads up to room bytes of a file, and hands back how many there were. A file that fills the room is one byte too long. */
+/* Reads up to room bytes of a file, and hands back how many there were. A file that fills the room is one byte too
+ * long. */
 static size_t read_file(const char *name, uint8_t *bytes, size_t room)
 {
     FILE *file = fopen(name, "rb");

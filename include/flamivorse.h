@@ -1,11 +1,14 @@
-/* Flamivorse: masked conversions of 32-bit words and masked HMAC-SHA-1, every call proved against its rules.
+/* Flamivorse: masked conversions of 32-bit words, masked HMAC-SHA-1 and HMAC-SHA-256, every call proved against its
+ * rules.
  *
  * Link with target/lib/libflamivorse.a (make lib), on x86-64. It needs no other library.
  *
  * Every function takes any numbers and any lengths, answers, and ends. What no proof can see and a caller must respect:
  *  - a slice is a pointer and a length in elements, and so many elements are there;
  *  - the pointer is not null, even where the length is 0;
- *  - a slice that is written overlaps no other.
+ *  - a slice that is written overlaps no other;
+ *  - a key is split for the hash that it is used with. Its shares do not say for which: those of a key over 64 bytes
+ *    that was split for the other hash give a wrong tag, and nothing is refused.
  *
  * Shares: n is 1 to 16; for the short conversion alone it is 1, 2, 4 or 8. Boolean shares of a word give it by XOR,
  * arithmetic shares by their sum modulo 2^32. Of several words, share i of word w (both from 0) stands at place
@@ -16,10 +19,12 @@
  * a call draws.
  *
  * All words of a call are lent at once, and flamivorse_hmac_sha1 draws up to 1,287,878,400 of them, 5 GB (16 shares and
- * 65,536 bytes): at many shares a long message is to be streamed. A compression draws 5,220n(n-1) words: 10,440 at two
- * shares, 1,252,800 at 16, which are 5 MB. A start draws those of two compressions, a finish those of two or three. A
- * feed draws those of (waiting + piece_len) / 64 compressions, rounded down, where waiting is how many bytes wait for
- * their block to become full (bytes % 64 of the state): for a piece of 64 bytes always those of one.
+ * 65,536 bytes), flamivorse_hmac_sha256 up to 2,384,302,080, 10 GB: at many shares a long message is to be streamed. A
+ * compression of SHA-1 draws 5,220n(n-1) words: 10,440 at two shares, 1,252,800 at 16, which are 5 MB. One of SHA-256
+ * draws 9,664n(n-1): 19,328 at two shares, 2,319,360 at 16, which are 9 MB. A start draws those of two compressions, a
+ * finish those of two or three. A feed draws those of (waiting + piece_len) / 64 compressions, rounded down, where
+ * waiting is how many bytes wait for their block to become full (bytes % 64 of the state): for a piece of 64 bytes
+ * always those of one.
  *
  * Numbers handed back; where several apply, 6 comes before all others, and of the others the least is given:
  *   0  done
@@ -40,8 +45,8 @@
  * as it likes, so that all shares of a word may stand in one, and copies stay in the caller's frame. No call can
  * prevent that. A program that makes such a call in a function of its own, and calls flamivorse_clear_stack when that
  * function has returned, clears the copies on the stack; what a C library's memcpy left in registers wider than 16
- * bytes stays (examples/stream.c copies without it). Where registers matter, use flamivorse_hmac_sha1: its chains
- * never leave the archive, which copies one share at a time.
+ * bytes stays (examples/stream.c copies without it). Where registers matter, use flamivorse_hmac_sha1 or
+ * flamivorse_hmac_sha256: their chains never leave the archive, which copies one share at a time.
  */
 #ifndef FLAMIVORSE_H
 #define FLAMIVORSE_H
@@ -63,28 +68,33 @@ typedef struct { uint32_t number; uint32_t word; } flamivorse_opened;
  * accepted answer. */
 typedef struct { uint32_t shares[80]; } flamivorse_chain;
 
+/* A chain value of SHA-256 in shares: the same with 8n places. A state has it for either hash, with 5n or 8n. */
+typedef struct { uint32_t shares[128]; } flamivorse_sha256_chain;
+
 /* The number, how many words were drawn, and the chain after; where refused, the chain exactly as given. */
 typedef struct { uint32_t number; uint64_t drawn; flamivorse_chain chain; } flamivorse_compressed;
+typedef struct { uint32_t number; uint64_t drawn; flamivorse_sha256_chain chain; } flamivorse_sha256_compressed;
 
-/* What is carried from piece to piece of a message. It is a value: each copy can be fed or finished by itself, with
- * words of its own, and the one from before a finish can be finished again. Both chains come from the key, and whoever
- * has them can make tags under it: a program clears its copies of a state as it clears the key's shares. */
+/* What is carried from piece to piece of a message, for both hashes. It is a value: each copy can be fed or finished by
+ * itself, with words of its own, and the one from before a finish can be finished again. Both chains come from the key,
+ * and whoever has them can make tags under it: a program clears its copies of a state as it clears the key's shares. */
 typedef struct {
-    size_t n;                  /* the share count */
-    uint64_t bytes;            /* how many bytes of the message were fed so far */
-    uint64_t drawn;            /* how many words start and feeds drew: those of 2 + bytes / 64 compressions */
-    uint32_t finished;         /* 0; 1 after an accepted finish; anything but 0 counts as finished */
-    uint32_t hash;             /* the hash that it belongs to: 0 is SHA-1, and no other number is one */
-    flamivorse_chain inner;    /* after the inner key block and the full blocks of the message */
-    flamivorse_chain outer;    /* after the outer key block */
-    uint8_t tail[64];          /* the bytes of the block that is not yet full: the first bytes % 64 */
+    size_t n;                         /* the share count */
+    uint64_t bytes;                   /* how many bytes of the message were fed so far */
+    uint64_t drawn;                   /* how many words start and feeds drew: those of 2 + bytes / 64 compressions */
+    uint32_t finished;                /* 0; 1 after an accepted finish; anything but 0 counts as finished */
+    uint32_t hash;                    /* the hash that it belongs to: 0 is SHA-1, 1 is SHA-256, and there is no other */
+    flamivorse_sha256_chain inner;    /* after the inner key block and the full blocks of the message */
+    flamivorse_sha256_chain outer;    /* after the outer key block */
+    uint8_t tail[64];                 /* the bytes of the block that is not yet full: the first bytes % 64 */
 } flamivorse_state;
 
 /* The number, how many words were drawn, and the state after; where refused, the state exactly as given, of a start
  * zeros in every field. */
 typedef struct { uint32_t number; uint64_t drawn; flamivorse_state state; } flamivorse_streamed;
 
-/* Two shares, after Goubin. g is a fresh random word, used once. No step of the source, taken alone, tells anything of x. */
+/* Two shares, after Goubin. g is a fresh random word, used once. No step of the source, taken alone, tells anything of
+ * x. */
 
 /* Boolean to arithmetic: from x1 and r with x = x1 XOR r, hands back x - r modulo 2^32. Refuses nothing. */
 uint32_t flamivorse_b2a_2(uint32_t x1, uint32_t r, uint32_t g);
@@ -151,8 +161,8 @@ flamivorse_answer flamivorse_b2a_short(size_t n, const uint32_t *x, size_t x_len
 
 /* SHA-1 and HMAC-SHA-1 on shares. */
 
-/* Splits a key of at most 1,024 bytes into the Boolean shares of HMAC's key block, 16 big-endian words: shares has 16n
- * words.
+/* Splits a key of at most 1,024 bytes into the Boolean shares of HMAC-SHA-1's key block, 16 big-endian words: shares
+ * has 16n words.
  * A key of up to 64 bytes is padded with zero bytes to 64 and split word by word. Draws 16(n-1) words.
  * A longer one is hashed, as HMAC has it (RFC 2104, section 2), and in shares: its bytes, the last word filled with
  * zero bytes, are split word by word and hashed by SHA-1 under their true length. The five words of the digest, still
@@ -160,27 +170,29 @@ flamivorse_answer flamivorse_b2a_short(size_t n, const uint32_t *x, size_t x_len
  * (key_len + 8) / 64 + 1 compressions: at four shares a key of 64 bytes draws 48 words, one of 65 bytes 125,331, and
  * one of 1,024 bytes 1,065,648.
  * Refuses with 1, 3, 4, 5 (fewer words than the splitting and the compressions draw together). */
-flamivorse_answer flamivorse_split_key(size_t n, const uint8_t *key, size_t key_len, uint32_t *shares, size_t shares_len,
-                                       const uint32_t *words, size_t words_len);
+flamivorse_answer flamivorse_split_key(size_t n, const uint8_t *key, size_t key_len,
+                                       uint32_t *shares, size_t shares_len, const uint32_t *words, size_t words_len);
 
 /* One compression of SHA-1: hands back the chain after the block, which has 16n words; draws 5,220n(n-1) words.
  * Refuses with 1, 2, 5. */
-flamivorse_compressed flamivorse_sha1_compress(size_t n, flamivorse_chain chain, const uint32_t *block, size_t block_len,
+flamivorse_compressed flamivorse_sha1_compress(size_t n, flamivorse_chain chain,
+                                               const uint32_t *block, size_t block_len,
                                                const uint32_t *words, size_t words_len);
 
 /* The HMAC-SHA-1 tag of a whole message of at most 65,536 bytes, under a key of 16n words as flamivorse_split_key
  * writes it: writes the opened tag, of 20 bytes. Nothing else is opened. Draws the words of (message_len + 8) / 64 + 4
  * compressions.
  * Refuses with 1, 2 (the key), 3 (the tag), 4, 5. */
-flamivorse_answer flamivorse_hmac_sha1(size_t n, const uint32_t *key, size_t key_len, const uint8_t *message, size_t message_len,
-                                       uint8_t *tag, size_t tag_len, const uint32_t *words, size_t words_len);
+flamivorse_answer flamivorse_hmac_sha1(size_t n, const uint32_t *key, size_t key_len,
+                                       const uint8_t *message, size_t message_len, uint8_t *tag, size_t tag_len,
+                                       const uint32_t *words, size_t words_len);
 
 /* HMAC-SHA-1 of a message that comes in pieces: start, a feed for each piece, finish. However the message is cut, with
  * empty pieces too, its tag is the one of flamivorse_hmac_sha1, and all calls together draw as many words as that one,
  * in another order. Any state may be given: one that is not refused with 6 is taken as it stands. */
 
 /* The state before the first byte, under a key of 16n words as flamivorse_split_key writes it: the inner key block is
- * compressed, then the outer one. Draws the words of 2 compressions, and the state's drawn says so.
+ * compressed, then the outer one. Draws the words of 2 compressions, and the state's drawn says so; its hash is 0.
  * Refuses with 1, 2 (the key), 5. */
 flamivorse_streamed flamivorse_hmac_sha1_start(size_t n, const uint32_t *key, size_t key_len,
                                                const uint32_t *words, size_t words_len);
@@ -200,6 +212,47 @@ flamivorse_streamed flamivorse_hmac_sha1_feed(flamivorse_state state, const uint
 flamivorse_streamed flamivorse_hmac_sha1_finish(flamivorse_state state, uint8_t *tag, size_t tag_len,
                                                 const uint32_t *words, size_t words_len);
 
+/* SHA-256 and HMAC-SHA-256 on shares. Each call is that of SHA-1 with the other hash: what it takes, does, draws,
+ * refuses and hands back is said there, and here what is another. */
+
+/* Splits a key for HMAC-SHA-256. The shares of a key of up to 64 bytes are those that flamivorse_split_key writes. A
+ * longer one is hashed by SHA-256, and the eight words of the digest, then zero shares, are the key block: at four
+ * shares a key of 65 bytes draws 231,987 words, and one of 1,024 bytes 1,972,224.
+ * Refuses with 1, 3, 4, 5. */
+flamivorse_answer flamivorse_sha256_split_key(size_t n, const uint8_t *key, size_t key_len,
+                                              uint32_t *shares, size_t shares_len,
+                                              const uint32_t *words, size_t words_len);
+
+/* One compression of SHA-256: draws 9,664n(n-1) words. Refuses with 1, 2, 5. */
+flamivorse_sha256_compressed flamivorse_sha256_compress(size_t n, flamivorse_sha256_chain chain,
+                                                        const uint32_t *block, size_t block_len,
+                                                        const uint32_t *words, size_t words_len);
+
+/* The HMAC-SHA-256 tag of a whole message, under a key as flamivorse_sha256_split_key writes it: the tag has 32 bytes.
+ * Refuses with 1, 2 (the key), 3 (the tag), 4, 5. */
+flamivorse_answer flamivorse_hmac_sha256(size_t n, const uint32_t *key, size_t key_len,
+                                         const uint8_t *message, size_t message_len, uint8_t *tag, size_t tag_len,
+                                         const uint32_t *words, size_t words_len);
+
+/* HMAC-SHA-256 of a message that comes in pieces: start, a feed for each piece, finish. A state of the other hash is
+ * refused with 6, by these calls as by those of SHA-1. */
+
+/* The state before the first byte, under a key as flamivorse_sha256_split_key writes it: its hash is 1.
+ * Refuses with 1, 2 (the key), 5. */
+flamivorse_streamed flamivorse_hmac_sha256_start(size_t n, const uint32_t *key, size_t key_len,
+                                                 const uint32_t *words, size_t words_len);
+
+/* The state after one more piece: of its chains the words from place 8n on are not looked at, and are 0 in an accepted
+ * answer.
+ * Refuses with 6, 4, 5, in this order. */
+flamivorse_streamed flamivorse_hmac_sha256_feed(flamivorse_state state, const uint8_t *piece, size_t piece_len,
+                                                const uint32_t *words, size_t words_len);
+
+/* The tag of all that was fed, of 32 bytes.
+ * Refuses with 6, 3 (the tag), 5, in this order. */
+flamivorse_streamed flamivorse_hmac_sha256_finish(flamivorse_state state, uint8_t *tag, size_t tag_len,
+                                                  const uint32_t *words, size_t words_len);
+
 /* How many words a call draws: number 0 and the count, or the number with which the call refuses such an n (1), length
  * (4) or state (6), and 0. Lending as many words is always enough, and one word less is always refused with 5. Of a
  * state only n, bytes, drawn, finished and hash are looked at, so that its chains need not be handed to a query. */
@@ -217,8 +270,14 @@ flamivorse_answer flamivorse_hmac_sha1_words(size_t n, size_t message_len);
 flamivorse_answer flamivorse_hmac_sha1_start_words(size_t n);
 flamivorse_answer flamivorse_hmac_sha1_feed_words(flamivorse_state state, size_t piece_len);
 flamivorse_answer flamivorse_hmac_sha1_finish_words(flamivorse_state state);
+flamivorse_answer flamivorse_sha256_split_key_words(size_t n, size_t key_len);
+flamivorse_answer flamivorse_sha256_compress_words(size_t n);
+flamivorse_answer flamivorse_hmac_sha256_words(size_t n, size_t message_len);
+flamivorse_answer flamivorse_hmac_sha256_start_words(size_t n);
+flamivorse_answer flamivorse_hmac_sha256_feed_words(flamivorse_state state, size_t piece_len);
+flamivorse_answer flamivorse_hmac_sha256_finish_words(flamivorse_state state);
 
-/* Clears what calls have left behind: 8,192 bytes of stack below its caller, more than any call takes, and every
+/* Clears what calls have left behind: 16,384 bytes of stack below its caller, more than any call takes, and every
  * register that a call may change. To be called from the function that made the calls, after the last that saw a
  * secret. */
 void flamivorse_clear_stack(void);

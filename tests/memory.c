@@ -1,5 +1,5 @@
-/* The archive's own copy and fill (archive/), which no proof speaks of: every length and every alignment, with guards
- * on both sides. */
+/* The archive's own copy and fill (archive/), which no proof speaks of: every length to beyond that of a state, 1,120
+ * bytes, and every alignment, with guards on both sides. */
 #include <stdint.h>
 #include <stdio.h>
 #include <stdlib.h>
@@ -7,7 +7,7 @@
 void *private_copy(void *to, const void *from, size_t bytes);
 void *private_fill(void *to, int value, size_t bytes);
 
-enum { LENGTHS = 400, ALIGNMENTS = 8, GUARD = 64, ROOM = GUARD + ALIGNMENTS + LENGTHS + GUARD };
+enum { LENGTHS = 1200, ALIGNMENTS = 8, GUARD = 64, ROOM = GUARD + ALIGNMENTS + LENGTHS + GUARD };
 static uint8_t from[ROOM], to[ROOM];
 static size_t cases;
 

@@ -10,12 +10,16 @@
 mod optimised;
 mod plot;
 
-use flamivorse::{Chain, State, B2A_SHORT_COUNTS, MESSAGE_LIMIT, SHARES_LIMIT, TAG_BYTES};
-use optimised::{Convert, ConvertShort, Optimised, Supply};
+use flamivorse::{
+    ChainOf, Drawn, Refusal, State, B2A_SHORT_COUNTS, MESSAGE_LIMIT, SHA256_TAG_BYTES,
+    SHARES_LIMIT, TAG_BYTES,
+};
+use optimised::{Convert, ConvertShort, Hash, Optimised, Sha1, Sha256, Supply};
 use std::hint::black_box;
 use std::time::{Duration, Instant};
 
-const STEPS: [&str; 10] = [
+/// Those of a hash are SHA-1's, and the same with the name of the other one before them.
+const STEPS: [&str; 15] = [
     "refresh",
     "addition",
     "a2b",
@@ -26,12 +30,20 @@ const STEPS: [&str; 10] = [
     "long-key",
     "tag",
     "streamed",
+    "sha256-compression",
+    "sha256-key",
+    "sha256-long-key",
+    "sha256-tag",
+    "sha256-streamed",
 ];
+
+/// What stands before the steps of SHA-256.
+const OTHER: &str = "sha256-";
 
 /// The share counts at which a step is measured. A tag at 16 shares needs a third of a gigabyte of
 /// words at once.
 fn counts(step: &str) -> &'static [usize] {
-    match step {
+    match step.trim_start_matches(OTHER) {
         "b2a-short" => &B2A_SHORT_COUNTS,
         "tag" | "streamed" => &[1, 2, 3, 4, 8],
         _ => &[1, 2, 3, 4, 8, SHARES_LIMIT],
@@ -40,7 +52,7 @@ fn counts(step: &str) -> &'static [usize] {
 
 /// The key that a step splits: a block, or more than a block, which is hashed as well.
 fn key(step: &str) -> &'static [u8] {
-    match step {
+    match step.trim_start_matches(OTHER) {
         "key" => &[0x61; 64],
         _ => &[0x61; 100],
     }
@@ -101,6 +113,54 @@ fn shared<const N: usize, const WORDS: usize>(words: &[u32]) -> [[u32; N]; WORDS
     std::array::from_fn(|word| std::array::from_fn(|share| words[word * N + share]))
 }
 
+type Answer = Result<Drawn, Refusal>;
+type Hmac = fn(usize, &[u32], &[u8], &mut [u8], &[u32]) -> Answer;
+
+/// The archive's calls of a hash, but for its compression, whose chain is its own.
+struct Calls {
+    split_key: fn(usize, &[u8], &mut [u32], &[u32]) -> Answer,
+    hmac: Hmac,
+    start: fn(usize, &[u32], &mut State, &[u32]) -> Answer,
+    feed: fn(&mut State, &[u8], &[u32]) -> Answer,
+    finish: fn(&mut State, &mut [u8], &[u32]) -> Answer,
+    compress_words: fn(usize) -> Answer,
+    split_key_words: fn(usize, usize) -> Answer,
+    hmac_words: fn(usize, usize) -> Answer,
+    tag_bytes: usize,
+}
+
+static SHA1: Calls = Calls {
+    split_key: flamivorse::split_key,
+    hmac: flamivorse::hmac_sha1,
+    start: flamivorse::hmac_sha1_start,
+    feed: flamivorse::hmac_sha1_feed,
+    finish: flamivorse::hmac_sha1_finish,
+    compress_words: flamivorse::sha1_compress_words,
+    split_key_words: flamivorse::split_key_words,
+    hmac_words: flamivorse::hmac_sha1_words,
+    tag_bytes: TAG_BYTES,
+};
+
+static SHA256: Calls = Calls {
+    split_key: flamivorse::sha256_split_key,
+    hmac: flamivorse::hmac_sha256,
+    start: flamivorse::hmac_sha256_start,
+    feed: flamivorse::hmac_sha256_feed,
+    finish: flamivorse::hmac_sha256_finish,
+    compress_words: flamivorse::sha256_compress_words,
+    split_key_words: flamivorse::sha256_split_key_words,
+    hmac_words: flamivorse::hmac_sha256_words,
+    tag_bytes: SHA256_TAG_BYTES,
+};
+
+/// The calls of a step's hash, and the step by itself.
+fn hashed(step: &str) -> (&'static Calls, &str) {
+    match step.strip_prefix(OTHER) {
+        Some(step) => (&SHA256, step),
+        None => (&SHA1, step),
+    }
+}
+
 /// The step as the archive makes it.
 fn archive<const N: usize>(step: &str, lent: Lent) -> Step {
     let Lent { input, words, .. } = lent;
@@ -127,53 +187,64 @@ fn archive<const N: usize>(step: &str, lent: Lent) -> Step {
             flamivorse::b2a_short(N, black_box(x), &mut z, words).expect(DONE);
             digest(z)
         }),
-        "compression" => Box::new(move || {
-            let mut chain = Chain::default();
-            chain.shares[..5 * N].copy_from_slice(&input[..5 * N]);
-            flamivorse::sha1_compress(N, &mut chain, black_box(&input[..16 * N]), words)
-                .expect(DONE);
-            digest(chain.shares[..5 * N].iter().copied())
-        }),
-        "key" | "long-key" => {
-            let key = key(step);
-            Box::new(move || split_key::<N>(key, words))
+        "compression" => Box::new(move || compressed::<N, 5, _>(flamivorse::sha1_compress, lent)),
+        "sha256-compression" => {
+            Box::new(move || compressed::<N, 8, _>(flamivorse::sha256_compress, lent))
         }
-        "tag" => Box::new(move || tag::<N>(lent)),
-        _ => Box::new(move || streamed::<N>(lent)),
+        _ => match hashed(step) {
+            (calls, "tag") => Box::new(move || tag::<N>(calls, lent)),
+            (calls, "streamed") => Box::new(move || streamed::<N>(calls, lent)),
+            (calls, _) => {
+                let key = key(step);
+                Box::new(move || split_key::<N>(calls, key, words))
+            }
+        },
     }
 }
 
+/// The chain after a block, by the archive.
+fn compressed<const N: usize, const WORDS: usize, const PLACES: usize>(
+    compress: fn(usize, &mut ChainOf<PLACES>, &[u32], &[u32]) -> Answer,
+    Lent { input, words, .. }: Lent,
+) -> u32 {
+    let mut chain = ChainOf::default();
+    chain.shares[..WORDS * N].copy_from_slice(&input[..WORDS * N]);
+    compress(N, &mut chain, black_box(&input[..16 * N]), words).expect(DONE);
+    digest(chain.shares[..WORDS * N].iter().copied())
+}
+
 /// The shares of a key by the archive.
-fn split_key<const N: usize>(key: &[u8], words: &[u32]) -> u32 {
+fn split_key<const N: usize>(calls: &Calls, key: &[u8], words: &[u32]) -> u32 {
     let mut shares = [[0; N]; 16];
     let shares = shares.as_flattened_mut();
-    flamivorse::split_key(N, black_box(key), shares, words).expect(DONE);
+    (calls.split_key)(N, black_box(key), shares, words).expect(DONE);
     digest(shares.iter().copied())
 }
 
 /// The archive's tag in one call.
-fn tag<const N: usize>(lent: Lent) -> u32 {
-    let mut tag = [0; TAG_BYTES];
+fn tag<const N: usize>(calls: &Calls, lent: Lent) -> u32 {
+    let tag = &mut [0; SHA256_TAG_BYTES][..calls.tag_bytes];
     let key = black_box(&lent.input[..16 * N]);
-    flamivorse::hmac_sha1(N, key, lent.message, &mut tag, lent.words).expect(DONE);
-    digest(tag.map(u32::from))
+    (calls.hmac)(N, key, lent.message, tag, lent.words).expect(DONE);
+    digest(tag.iter().copied().map(u32::from))
 }
 
 /// The archive's tag of a message in pieces. Each call is lent the words that those before it left.
-fn streamed<const N: usize>(lent: Lent) -> u32 {
-    let (mut state, mut tag) = (State::default(), [0; TAG_BYTES]);
+fn streamed<const N: usize>(calls: &Calls, lent: Lent) -> u32 {
+    let (mut state, mut tag) = (State::default(), [0; SHA256_TAG_BYTES]);
+    let tag = &mut tag[..calls.tag_bytes];
     let key = black_box(&lent.input[..16 * N]);
-    let drawn = flamivorse::hmac_sha1_start(N, key, &mut state, lent.words);
+    let drawn = (calls.start)(N, key, &mut state, lent.words);
     let mut words = &lent.words[drawn.expect(DONE).words()..];
     for piece in lent.message.chunks(PIECE) {
-        let drawn = flamivorse::hmac_sha1_feed(&mut state, piece, words);
+        let drawn = (calls.feed)(&mut state, piece, words);
         words = &words[drawn.expect(DONE).words()..];
     }
-    flamivorse::hmac_sha1_finish(&mut state, &mut tag, words).expect(DONE);
-    digest(tag.map(u32::from))
+    (calls.finish)(&mut state, tag, words).expect(DONE);
+    digest(tag.iter().copied().map(u32::from))
 }
 
-/// The step in optimised Rust. A streamed tag has the compressions of a tag, and is compared with that.
+/// The step in optimised Rust.
 fn rust<const N: usize>(step: &str, lent: Lent) -> Step
 where
     Optimised: Convert<N>,
@@ -186,19 +257,34 @@ where
         "addition" => Box::new(move || digest(optimised::add(black_box(&x), &y, &mut supply()))),
         "a2b" => Box::new(move || digest(Optimised::a2b(black_box(&x), &mut supply()))),
         "b2a" => Box::new(move || digest(Optimised::b2a(black_box(&x), &mut supply()))),
+        _ => match step.strip_prefix(OTHER) {
+            Some(step) => rust_hashed::<N, Sha256, 8>(step, lent),
+            None => rust_hashed::<N, Sha1, 5>(step, lent),
+        },
+    }
+}
+
+/// A step of a hash in optimised Rust. A streamed tag has the compressions of a tag, and is compared
+/// with that.
+fn rust_hashed<const N: usize, H: Hash<WORDS>, const WORDS: usize>(step: &str, lent: Lent) -> Step {
+    let Lent { input, words, .. } = lent;
+    let supply = move || Supply { words, place: 0 };
+    match step {
         "compression" => Box::new(move || {
             let (chain, block) = (shared(input), shared(black_box(input)));
-            digest(optimised::compress::<N>(&chain, &block, &mut supply()).concat())
+            digest(H::compress::<N>(&chain, &block, &mut supply()).concat())
         }),
         "key" | "long-key" => {
             let key = key(step);
             Box::new(move || {
-                digest(optimised::split_key::<N>(black_box(key), &mut supply()).concat())
+                let shares = optimised::split_key::<H, WORDS, N>(black_box(key), &mut supply());
+                digest(shares.concat())
             })
         }
         _ => Box::new(move || {
             let key = shared::<N, 16>(black_box(input));
-            digest(optimised::hmac(&key, lent.message, &mut supply()).map(u32::from))
+            let tag = optimised::hmac::<H, WORDS, N>(&key, lent.message, &mut supply());
+            digest(tag.concat().into_iter().map(u32::from))
         }),
     }
 }
@@ -221,9 +307,11 @@ fn drawn(step: &str, n: usize, bytes: usize) -> usize {
         "a2b" => flamivorse::a2b_words(n),
         "b2a" => flamivorse::b2a_words(n),
         "b2a-short" => flamivorse::b2a_short_words(n),
-        "compression" => flamivorse::sha1_compress_words(n),
-        "key" | "long-key" => flamivorse::split_key_words(n, key(step).len()),
-        _ => flamivorse::hmac_sha1_words(n, bytes),
+        _ => match hashed(step) {
+            (calls, "compression") => (calls.compress_words)(n),
+            (calls, "tag" | "streamed") => (calls.hmac_words)(n, bytes),
+            (calls, _) => (calls.split_key_words)(n, key(step).len()),
+        },
     };
     drawn.expect("the share count is right").words()
 }

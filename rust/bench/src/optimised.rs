@@ -235,7 +235,29 @@ convert_by_one_less!(6 between 5 and 7, 7 between 6 and 8, 8 between 7 and 9);
 /// A word in N shares.
 type Shared<const N: usize> = [u32; N];
 
-pub const START: [u32; 5] = [0x67452301, 0xefcdab89, 0x98badcfe, 0x10325476, 0xc3d2e1f0];
+/// A hash whose chain has so many words.
+pub trait Hash<const WORDS: usize> {
+    const START: [u32; WORDS];
+
+    fn compress<const N: usize>(
+        chain: &[Shared<N>; WORDS],
+        block: &[Shared<N>; 16],
+        supply: &mut Supply,
+    ) -> [Shared<N>; WORDS];
+}
+
+pub struct Sha1;
+pub struct Sha256;
+
+#[inline(always)]
+fn choose<const N: usize>([x, y, z]: [&Shared<N>; 3], supply: &mut Supply) -> Shared<N> {
+    xor(z, &and(x, &xor(y, z), supply.draw(pairs(N))))
+}
+
+#[inline(always)]
+fn majority<const N: usize>([x, y, z]: [&Shared<N>; 3], supply: &mut Supply) -> Shared<N> {
+    xor(z, &and(&xor(x, z), &xor(y, z), supply.draw(pairs(N))))
+}
 
 fn schedule<const N: usize>(block: &[Shared<N>; 16]) -> [Shared<N>; 80] {
     let mut w = [[0; N]; 80];
@@ -247,38 +269,109 @@ fn schedule<const N: usize>(block: &[Shared<N>; 16]) -> [Shared<N>; 80] {
     w
 }
 
-/// The function of round t on b, c and d, and the constant.
+/// The function of round t of SHA-1 on b, c and d, and the constant.
 #[inline(always)]
 fn function<const N: usize>(
     t: usize,
     [b, c, d]: [&Shared<N>; 3],
     supply: &mut Supply,
 ) -> (Shared<N>, u32) {
-    let mut and = |x: &Shared<N>, y: &Shared<N>| and(x, y, supply.draw(pairs(N)));
     match t / 20 {
-        0 => (xor(d, &and(b, &xor(c, d))), 0x5a827999),
+        0 => (choose([b, c, d], supply), 0x5a827999),
         1 => (xor(&xor(b, c), d), 0x6ed9eba1),
-        2 => (xor(d, &and(&xor(b, d), &xor(c, d))), 0x8f1bbcdc),
+        2 => (majority([b, c, d], supply), 0x8f1bbcdc),
         _ => (xor(&xor(b, c), d), 0xca62c1d6),
     }
 }
 
-pub fn compress<const N: usize>(
-    chain: &[Shared<N>; 5],
+impl Hash<5> for Sha1 {
+    const START: [u32; 5] = [0x67452301, 0xefcdab89, 0x98badcfe, 0x10325476, 0xc3d2e1f0];
+
+    fn compress<const N: usize>(
+        chain: &[Shared<N>; 5],
+        block: &[Shared<N>; 16],
+        supply: &mut Supply,
+    ) -> [Shared<N>; 5] {
+        let [mut a, mut b, mut c, mut d, mut e] = *chain;
+        for (t, w) in schedule(block).iter().enumerate() {
+            let (f, k) = function(t, [&b, &c, &d], supply);
+            let sum = add(&a.map(|share| share.rotate_left(5)), &f, supply);
+            let sum = add(&sum, &e, supply);
+            let sum = add(&sum, &public(k), supply);
+            let sum = add(&sum, w, supply);
+            (e, d, c, b, a) = (d, c, b.map(|share| share.rotate_left(30)), a, sum);
+        }
+        let rounds = [a, b, c, d, e];
+        std::array::from_fn(|i| add(&chain[i], &rounds[i], supply))
+    }
+}
+
+/// The constants of SHA-256's rounds.
+#[rustfmt::skip]
+const ROUNDS: [u32; 64] = [
+    0x428a2f98, 0x71374491, 0xb5c0fbcf, 0xe9b5dba5, 0x3956c25b, 0x59f111f1, 0x923f82a4, 0xab1c5ed5,
+    0xd807aa98, 0x12835b01, 0x243185be, 0x550c7dc3, 0x72be5d74, 0x80deb1fe, 0x9bdc06a7, 0xc19bf174,
+    0xe49b69c1, 0xefbe4786, 0x0fc19dc6, 0x240ca1cc, 0x2de92c6f, 0x4a7484aa, 0x5cb0a9dc, 0x76f988da,
+    0x983e5152, 0xa831c66d, 0xb00327c8, 0xbf597fc7, 0xc6e00bf3, 0xd5a79147, 0x06ca6351, 0x14292967,
+    0x27b70a85, 0x2e1b2138, 0x4d2c6dfc, 0x53380d13, 0x650a7354, 0x766a0abb, 0x81c2c92e, 0x92722c85,
+    0xa2bfe8a1, 0xa81a664b, 0xc24b8b70, 0xc76c51a3, 0xd192e819, 0xd6990624, 0xf40e3585, 0x106aa070,
+    0x19a4c116, 0x1e376c08, 0x2748774c, 0x34b0bcb5, 0x391c0cb3, 0x4ed8aa4a, 0x5b9cca4f, 0x682e6ff3,
+    0x748f82ee, 0x78a5636f, 0x84c87814, 0x8cc70208, 0x90befffa, 0xa4506ceb, 0xbef9a3f7, 0xc67178f2,
+];
+
+/// Σ of SHA-256: three rotations to the right.
+#[inline(always)]
+fn rotations<const N: usize>(x: &Shared<N>, by: [u32; 3]) -> Shared<N> {
+    x.map(|share| share.rotate_right(by[0]) ^ share.rotate_right(by[1]) ^ share.rotate_right(by[2]))
+}
+
+/// σ of SHA-256: two rotations to the right, and a shift.
+#[inline(always)]
+fn shifted<const N: usize>(x: &Shared<N>, by: [u32; 3]) -> Shared<N> {
+    x.map(|share| share.rotate_right(by[0]) ^ share.rotate_right(by[1]) ^ (share >> by[2]))
+}
+
+fn summed_schedule<const N: usize>(
     block: &[Shared<N>; 16],
     supply: &mut Supply,
-) -> [Shared<N>; 5] {
-    let [mut a, mut b, mut c, mut d, mut e] = *chain;
-    for (t, w) in schedule(block).iter().enumerate() {
-        let (f, k) = function(t, [&b, &c, &d], supply);
-        let sum = add(&a.map(|share| share.rotate_left(5)), &f, supply);
-        let sum = add(&sum, &e, supply);
-        let sum = add(&sum, &public(k), supply);
-        let sum = add(&sum, w, supply);
-        (e, d, c, b, a) = (d, c, b.map(|share| share.rotate_left(30)), a, sum);
+) -> [Shared<N>; 64] {
+    let mut w = [[0; N]; 64];
+    w[..16].copy_from_slice(block);
+    for t in 16..64 {
+        let sum = add(&shifted(&w[t - 2], [17, 19, 10]), &w[t - 7], supply);
+        let sum = add(&sum, &shifted(&w[t - 15], [7, 18, 3]), supply);
+        w[t] = add(&sum, &w[t - 16], supply);
     }
-    let rounds = [a, b, c, d, e];
-    std::array::from_fn(|i| add(&chain[i], &rounds[i], supply))
+    w
+}
+
+impl Hash<8> for Sha256 {
+    const START: [u32; 8] = [
+        0x6a09e667, 0xbb67ae85, 0x3c6ef372, 0xa54ff53a, 0x510e527f, 0x9b05688c, 0x1f83d9ab,
+        0x5be0cd19,
+    ];
+
+    fn compress<const N: usize>(
+        chain: &[Shared<N>; 8],
+        block: &[Shared<N>; 16],
+        supply: &mut Supply,
+    ) -> [Shared<N>; 8] {
+        let w = summed_schedule(block, supply);
+        let [mut a, mut b, mut c, mut d, mut e, mut f, mut g, mut h] = *chain;
+        for (w, k) in w.iter().zip(ROUNDS) {
+            let chosen = choose([&e, &f, &g], supply);
+            let most = majority([&a, &b, &c], supply);
+            let sum = add(&h, &rotations(&e, [6, 11, 25]), supply);
+            let sum = add(&sum, &chosen, supply);
+            let sum = add(&sum, &public(k), supply);
+            let sum = add(&sum, w, supply);
+            let other = add(&rotations(&a, [2, 13, 22]), &most, supply);
+            (h, g, f, e) = (g, f, e, add(&d, &sum, supply));
+            (d, c, b, a) = (c, b, a, add(&sum, &other, supply));
+        }
+        let rounds = [a, b, c, d, e, f, g, h];
+        std::array::from_fn(|i| add(&chain[i], &rounds[i], supply))
+    }
 }
 
 fn split<const N: usize>(value: u32, supply: &mut Supply) -> Shared<N> {
@@ -303,9 +396,12 @@ fn padded(bytes: &[u8], before: usize) -> Vec<u8> {
 }
 
 /// The key block of a key: its words split; of one over a block their digest.
-pub fn split_key<const N: usize>(key: &[u8], supply: &mut Supply) -> [Shared<N>; 16] {
+pub fn split_key<H: Hash<WORDS>, const WORDS: usize, const N: usize>(
+    key: &[u8],
+    supply: &mut Supply,
+) -> [Shared<N>; 16] {
     if key.len() > 64 {
-        return long_key(key, supply);
+        return long_key::<H, WORDS, N>(key, supply);
     }
     let mut block = [0; 64];
     block[..key.len()].copy_from_slice(key);
@@ -313,7 +409,10 @@ pub fn split_key<const N: usize>(key: &[u8], supply: &mut Supply) -> [Shared<N>;
 }
 
 /// All words are split before the first is hashed. Padding goes into their first shares.
-fn long_key<const N: usize>(key: &[u8], supply: &mut Supply) -> [Shared<N>; 16] {
+fn long_key<H: Hash<WORDS>, const WORDS: usize, const N: usize>(
+    key: &[u8],
+    supply: &mut Supply,
+) -> [Shared<N>; 16] {
     let padding = padded(&vec![0; key.len()], 0);
     let mut filled = key.to_vec();
     filled.resize(key.len().next_multiple_of(4), 0);
@@ -323,42 +422,46 @@ fn long_key<const N: usize>(key: &[u8], supply: &mut Supply) -> [Shared<N>; 16] 
     for (i, shares) in words.iter_mut().enumerate() {
         shares[0] ^= word(&padding, i);
     }
-    let mut chain = START.map(public);
+    let mut chain = H::START.map(public);
     for block in words.chunks_exact(16) {
-        chain = compress(&chain, block.try_into().expect("a block"), supply);
+        chain = H::compress(&chain, block.try_into().expect("a block"), supply);
     }
     let mut block = [[0; N]; 16];
-    block[..5].copy_from_slice(&chain);
+    block[..WORDS].copy_from_slice(&chain);
     block
 }
 
-fn keyed<const N: usize>(key: &[Shared<N>; 16], pad: u32, supply: &mut Supply) -> [Shared<N>; 5] {
-    compress(
-        &START.map(public),
+fn keyed<H: Hash<WORDS>, const WORDS: usize, const N: usize>(
+    key: &[Shared<N>; 16],
+    pad: u32,
+    supply: &mut Supply,
+) -> [Shared<N>; WORDS] {
+    H::compress(
+        &H::START.map(public),
         &key.map(|word| xor(&word, &public(pad))),
         supply,
     )
 }
 
 /// The tag of a message, whose padding is put into one buffer first.
-pub fn hmac<const N: usize>(
+pub fn hmac<H: Hash<WORDS>, const WORDS: usize, const N: usize>(
     key: &[Shared<N>; 16],
     message: &[u8],
     supply: &mut Supply,
-) -> [u8; 20] {
-    let mut inner = keyed(key, 0x36363636, supply);
+) -> [[u8; 4]; WORDS] {
+    let mut inner = keyed::<H, WORDS, N>(key, 0x36363636, supply);
     for block in padded(message, 64).chunks_exact(64) {
-        inner = compress(
+        inner = H::compress(
             &inner,
             &std::array::from_fn(|i| public(word(block, i))),
             supply,
         );
     }
-    let outer = keyed(key, 0x5c5c5c5c, supply);
+    let outer = keyed::<H, WORDS, N>(key, 0x5c5c5c5c, supply);
     let mut digest = [[0; N]; 16];
-    digest[..5].copy_from_slice(&inner);
-    digest[5] = public(0x80000000);
-    digest[15] = public(8 * (64 + 20));
-    let opened = compress(&outer, &digest, supply).map(|word| word.iter().fold(0, |x, s| x ^ s));
-    std::array::from_fn(|i| opened[i / 4].to_be_bytes()[i % 4])
+    digest[..WORDS].copy_from_slice(&inner);
+    digest[WORDS] = public(0x80000000);
+    digest[15] = public(8 * (64 + 4 * WORDS as u32));
+    let opened = H::compress(&outer, &digest, supply);
+    opened.map(|word| word.iter().fold(0, |x, share| x ^ share).to_be_bytes())
 }

@@ -1,5 +1,6 @@
 //! What the arguments ask for.
 
+use crate::hash::Hash;
 use crate::problem::Problem;
 use lexopt::prelude::*;
 use std::ffi::OsString;
@@ -11,27 +12,29 @@ const SHARES: usize = 4;
 const KEY_LENGTH: usize = 64;
 
 pub const HELP: &str = "\
-Tags logs with HMAC-SHA-1 and checks such tags. The key is split into shares
-first, and only the tag is ever put together again.
+Tags logs with HMAC-SHA-1 or HMAC-SHA-256 and checks such tags. The key is split
+into shares first, and only the tag is ever put together again.
 
 Usage:
-  flamivorse tag --key FILE [--shares N] [--words FILE] [LOG...]
+  flamivorse tag --key FILE [--hash HASH] [--shares N] [--words FILE] [LOG...]
   flamivorse check --key FILE [--shares N] [--words FILE] [TAGS...]
-  flamivorse words [--shares N] [--key-length K] --length L
+  flamivorse words [--hash HASH] [--shares N] [--key-length K] --length L
 
 Commands:
   tag     print the tag and the name of each LOG
   check   read lines as tag prints them from each TAGS, and say of each log
-          whether its tag is right
+          whether its tag is right; one of 40 digits is of SHA-1, one of 64 of
+          SHA-256
   words   print how many random words the tag of a log of L bytes draws, how
-          many splitting a key of K bytes draws (once a run), and the sum of
-          the two
+          many splitting a key of K bytes draws (once a run for each hash), and
+          the sum of the two
 
 With no LOG or TAGS, or where it is -, standard input is read.
 
 Options:
   --key FILE      the key: the bytes of FILE as they stand, at most 1,024; a
                   line end at the end of FILE is part of it
+  --hash HASH     tag by sha1 or by sha256 (sha1 unless said otherwise)
   --shares N      work with N shares, 1 to 16 (4 unless said otherwise)
   --words FILE    take the random words from FILE, four bytes a word, the most
                   significant first, so that a run can be repeated; unless said
@@ -58,6 +61,7 @@ pub enum Command {
     Version,
     Tag {
         options: Options,
+        hash: Hash,
         logs: Vec<OsString>,
     },
     Check {
@@ -65,6 +69,7 @@ pub enum Command {
         lists: Vec<OsString>,
     },
     Words {
+        hash: Hash,
         shares: usize,
         key_length: usize,
         length: usize,
@@ -83,6 +88,7 @@ pub struct Options {
 struct Given {
     verb: Option<OsString>,
     key: Option<OsString>,
+    hash: Option<Hash>,
     shares: Option<usize>,
     words: Option<OsString>,
     length: Option<usize>,
@@ -98,6 +104,7 @@ pub fn parse(mut parser: lexopt::Parser) -> Result<Command, Problem> {
             Short('h') | Long("help") => return Ok(Command::Help),
             Short('V') | Long("version") => return Ok(Command::Version),
             Long("key") => given.key = Some(parser.value()?),
+            Long("hash") => given.hash = Some(parser.value()?.parse()?),
             Long("shares") => given.shares = Some(parser.value()?.parse()?),
             Long("words") => given.words = Some(parser.value()?),
             Long("length") => given.length = Some(parser.value()?.parse()?),
@@ -114,18 +121,34 @@ impl Given {
     fn command(mut self) -> Result<Command, Problem> {
         let verb = self.verb.take().unwrap_or_default();
         match verb.to_str() {
-            Some("tag") => self
-                .files()
-                .map(|(options, logs)| Command::Tag { options, logs }),
-            Some("check") => self
-                .files()
-                .map(|(options, lists)| Command::Check { options, lists }),
+            Some("tag") => self.tag(),
+            Some("check") => self.check(),
             Some("words") => self.words(),
             Some("") => Err(Problem::usage("tag, check or words is missing")),
             _ => Err(Problem::usage(format!(
                 "{verb:?} is not tag, check or words"
             ))),
         }
+    }
+
+    fn tag(self) -> Result<Command, Problem> {
+        let hash = self.hash.unwrap_or_default();
+        let (options, logs) = self.files()?;
+        Ok(Command::Tag {
+            options,
+            hash,
+            logs,
+        })
+    }
+
+    fn check(self) -> Result<Command, Problem> {
+        if self.hash.is_some() {
+            return Err(Problem::usage(
+                "check takes no --hash: it knows the hash by the length of the tag",
+            ));
+        }
+        let (options, lists) = self.files()?;
+        Ok(Command::Check { options, lists })
     }
 
     /// The options, and the names, or standard input where none is given.
@@ -153,11 +176,12 @@ impl Given {
     fn words(self) -> Result<Command, Problem> {
         if self.key.is_some() || self.words.is_some() || !self.names.is_empty() {
             return Err(Problem::usage(
-                "words takes --shares, --key-length and --length alone",
+                "words takes --hash, --shares, --key-length and --length alone",
             ));
         }
         let length = self.length.ok_or(Problem::usage("--length is missing"))?;
         Ok(Command::Words {
+            hash: self.hash.unwrap_or_default(),
             shares: self.shares.unwrap_or(SHARES),
             key_length: self.key_length.unwrap_or(KEY_LENGTH),
             length,

@@ -1,8 +1,10 @@
 //! Checks tags: reads lines as `tag` prints them, and says of each log whether its tag is right.
 
 use crate::arguments::Options;
+use crate::hash::Hash;
+use crate::line::Line;
 use crate::problem::{complain, Problem};
-use crate::tagger::{open, Tagger};
+use crate::tagger::{open, PlainKey, Tagger, Words};
 use crate::{line, print, Status};
 use std::ffi::{OsStr, OsString};
 use std::io::{self, BufRead, BufReader};
@@ -15,6 +17,7 @@ struct Tally {
     wrong: usize,
     unread: usize,
     no_tag: usize,
+    other_length: usize,
     empty: usize,
     refused: usize,
     unlisted: usize,
@@ -24,7 +27,7 @@ struct Tally {
 impl Tally {
     /// Failed where a tag is not right, whatever else went wrong: nothing else may hide it.
     fn status(&self) -> Status {
-        let failed = self.wrong + self.unread + self.no_tag + self.empty;
+        let failed = self.wrong + self.unread + self.no_tag + self.other_length + self.empty;
         let trouble = self.refused + self.unlisted + self.unprinted;
         match (failed, trouble) {
             (0, 0) => Status::Done,
@@ -39,6 +42,7 @@ impl Tally {
             (self.wrong, "tags that are not right"),
             (self.unread, "logs that could not be read"),
             (self.no_tag, "lines that are no tag and name"),
+            (self.other_length, "tags of neither 40 nor 64 digits"),
             (self.empty, "lists without a tag"),
             (self.refused, "logs that were refused"),
             (self.unlisted, "lists that could not be read"),
@@ -55,14 +59,47 @@ impl Tally {
     }
 }
 
+/// The key, split for each hash when the first tag of that hash comes. Till the end the key itself is
+/// kept as well, since the next line may be of the other hash.
+struct Keys {
+    plain: PlainKey,
+    words: Words,
+    sha1: Option<Box<dyn Tagger>>,
+    sha256: Option<Box<dyn Tagger>>,
+}
+
+impl Keys {
+    fn read(options: &Options) -> Result<Keys, Problem> {
+        let words = Words::open(options.words.as_ref())?;
+        Ok(Keys {
+            plain: PlainKey::read(options)?,
+            words,
+            sha1: None,
+            sha256: None,
+        })
+    }
+
+    fn tag(&mut self, hash: Hash, name: &OsStr) -> Result<Vec<u8>, Problem> {
+        let split = match hash {
+            Hash::Sha1 => &mut self.sha1,
+            Hash::Sha256 => &mut self.sha256,
+        };
+        let key = match split {
+            Some(key) => key,
+            None => split.insert(self.plain.split(hash, &mut self.words)?),
+        };
+        key.tag(name, &mut self.words)
+    }
+}
+
 /// Checks every line of every list. One that cannot be read to its end is told of, and the others
 /// are checked all the same.
 pub fn check(options: &Options, lists: &[OsString]) -> Result<Status, Problem> {
-    let mut tagger = Tagger::new(options)?;
+    let mut keys = Keys::read(options)?;
     let mut tally = Tally::default();
     for list in lists {
         let before = tally.tags();
-        if let Err(error) = check_list(&mut tagger, list, &mut tally) {
+        if let Err(error) = check_list(&mut keys, list, &mut tally) {
             complain(Problem::file(list, error));
             tally.unlisted += 1;
         } else if tally.tags() == before {
@@ -77,21 +114,21 @@ pub fn check(options: &Options, lists: &[OsString]) -> Result<Status, Problem> {
     Ok(tally.status())
 }
 
-fn check_list(tagger: &mut Tagger, list: &OsStr, tally: &mut Tally) -> io::Result<()> {
+fn check_list(keys: &mut Keys, list: &OsStr, tally: &mut Tally) -> io::Result<()> {
     for line in BufReader::new(open(list)?).split(b'\n') {
-        check_line(tagger, &line?, tally);
+        match line::read(&line?) {
+            Line::Tag { hash, tag, name } => check_tag(keys, hash, &tag, &name, tally),
+            Line::OtherLength => tally.other_length += 1,
+            Line::NoTag => tally.no_tag += 1,
+        }
     }
     Ok(())
 }
 
-/// Checks one line, prints the verdict, and counts it. The two tags are compared in constant time.
-fn check_line(tagger: &mut Tagger, text: &[u8], tally: &mut Tally) {
-    let Some((given, name)) = line::read(text) else {
-        tally.no_tag += 1;
-        return;
-    };
-    let (verdict, count) = match tagger.tag(&name) {
-        Ok(tag) if bool::from(tag.ct_eq(&given)) => ("OK", &mut tally.right),
+/// Checks one tag, prints the verdict, and counts it. The two tags are compared in constant time.
+fn check_tag(keys: &mut Keys, hash: Hash, given: &[u8], name: &OsStr, tally: &mut Tally) {
+    let (verdict, count) = match keys.tag(hash, name) {
+        Ok(tag) if bool::from(tag.ct_eq(given)) => ("OK", &mut tally.right),
         Ok(_) => ("FAILED", &mut tally.wrong),
         Err(problem) => {
             complain(&problem);
@@ -102,7 +139,7 @@ fn check_line(tagger: &mut Tagger, text: &[u8], tally: &mut Tally) {
         }
     };
     *count += 1;
-    if let Err(problem) = print(&line::verdict(&name, verdict)) {
+    if let Err(problem) = print(&line::verdict(name, verdict)) {
         complain(&problem);
         tally.unprinted += 1;
     }

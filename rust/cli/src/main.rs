@@ -4,17 +4,19 @@
 
 mod arguments;
 mod check;
+mod hash;
 mod line;
 mod problem;
 mod tagger;
 
 use arguments::{Command, Options, HELP};
-use flamivorse::{hmac_sha1_words, split_key_words};
+use flamivorse::{hmac_sha1_words, hmac_sha256_words, sha256_split_key_words, split_key_words};
+use hash::Hash;
 use problem::{complain, Problem};
 use std::ffi::OsString;
 use std::io::{self, Write};
 use std::process::ExitCode;
-use tagger::Tagger;
+use tagger::{PlainKey, Words};
 
 /// How a run ends.
 #[derive(Clone, Copy)]
@@ -43,11 +45,16 @@ fn run(command: Command) -> Result<Status, Problem> {
             print(concat!("flamivorse ", env!("CARGO_PKG_VERSION"), "\n").as_bytes())?
         }
         Command::Words {
+            hash,
             shares,
             key_length,
             length,
-        } => words(shares, key_length, length)?,
-        Command::Tag { options, logs } => return tag(&options, &logs),
+        } => words(hash, shares, key_length, length)?,
+        Command::Tag {
+            options,
+            hash,
+            logs,
+        } => return tag(&options, hash, &logs),
         Command::Check { options, lists } => return check::check(&options, &lists),
     }
     Ok(Status::Done)
@@ -62,11 +69,12 @@ fn print(text: &[u8]) -> Result<(), Problem> {
 
 /// Prints the tag and the name of each log. One that cannot be tagged is told of, and the rest are
 /// tagged all the same.
-fn tag(options: &Options, logs: &[OsString]) -> Result<Status, Problem> {
-    let mut tagger = Tagger::new(options)?;
+fn tag(options: &Options, hash: Hash, logs: &[OsString]) -> Result<Status, Problem> {
+    let mut words = Words::open(options.words.as_ref())?;
+    let key = PlainKey::read(options)?.split(hash, &mut words)?;
     let mut status = Status::Done;
     for name in logs {
-        match tagger.tag(name) {
+        match key.tag(name, &mut words) {
             Ok(tag) => print(&line::write(&tag, name))?,
             Err(problem) => {
                 complain(&problem);
@@ -78,13 +86,23 @@ fn tag(options: &Options, logs: &[OsString]) -> Result<Status, Problem> {
 }
 
 /// Prints how many words a tag draws, how many the splitting of the key draws, and the sum.
-fn words(shares: usize, key_length: usize, length: usize) -> Result<(), Problem> {
+fn words(hash: Hash, shares: usize, key_length: usize, length: usize) -> Result<(), Problem> {
     let refused = |option, length: usize| {
         let asked = format!("--shares {shares} {option} {length}");
         move |refusal| Problem::refused(asked, refusal)
     };
-    let tag = hmac_sha1_words(shares, length).map_err(refused("--length", length))?;
-    let key = split_key_words(shares, key_length).map_err(refused("--key-length", key_length))?;
+    let (tag, key) = match hash {
+        Hash::Sha1 => (
+            hmac_sha1_words(shares, length),
+            split_key_words(shares, key_length),
+        ),
+        Hash::Sha256 => (
+            hmac_sha256_words(shares, length),
+            sha256_split_key_words(shares, key_length),
+        ),
+    };
+    let tag = tag.map_err(refused("--length", length))?;
+    let key = key.map_err(refused("--key-length", key_length))?;
     let total = tag.words() + key.words();
     print(format!("{tag} tag\n{key} key\n{total} total\n").as_bytes())
 }

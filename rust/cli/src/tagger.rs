@@ -1,10 +1,10 @@
-//! Tags logs: a key in shares, and the supply of words that its tags draw.
+//! Tags logs: a key, in shares for one hash, and the supply of words that its tags draw.
 
 use crate::arguments::Options;
+use crate::hash::Hash;
 use crate::problem::Problem;
 use flamivorse::{
-    hmac_sha1_words, split_key_words, Bytes, Drawn, Failure, Key, Refusal, Supply, KEY_LIMIT,
-    MESSAGE_LIMIT, TAG_BYTES,
+    Bytes, Drawn, Failure, Key, Refusal, Sha1, Sha256, Supply, KEY_LIMIT, MESSAGE_LIMIT,
 };
 use std::ffi::{OsStr, OsString};
 use std::fs::File;
@@ -12,13 +12,13 @@ use std::io::{self, ErrorKind, Read, Take};
 use zeroize::Zeroizing;
 
 /// Words from a file; the operating system's generator is one.
-struct Words {
+pub struct Words {
     name: OsString,
     supply: Supply<Bytes<File>>,
 }
 
 impl Words {
-    fn open(file: Option<&OsString>) -> Result<Words, Problem> {
+    pub fn open(file: Option<&OsString>) -> Result<Words, Problem> {
         let (name, supply) = match file {
             Some(name) => (
                 name.clone(),
@@ -77,47 +77,82 @@ impl Log<'_> {
     }
 }
 
-pub struct Tagger {
-    key: Key,
-    words: Words,
+/// The key as its file has it, and how many shares it is to have.
+pub struct PlainKey {
+    name: OsString,
+    bytes: Zeroizing<Vec<u8>>,
+    shares: usize,
 }
 
-impl Tagger {
-    /// Reads the key and splits it.
-    pub fn new(options: &Options) -> Result<Tagger, Problem> {
-        let refused = |refusal| match refusal {
-            Refusal::ShareCount => {
-                Problem::refused(format!("--shares {}", options.shares), refusal)
-            }
-            other => Problem::refused(&options.key, other),
+impl PlainKey {
+    /// Reads the key. What is refused of it or of the share count is refused for every hash, and here.
+    pub fn read(options: &Options) -> Result<PlainKey, Problem> {
+        let (name, shares) = (options.key.clone(), options.shares);
+        let key = File::open(&name).and_then(|file| read(file, KEY_LIMIT));
+        let bytes = key.map_err(|error| Problem::file(&name, error))?;
+        let key = PlainKey {
+            name,
+            bytes,
+            shares,
         };
-        let mut words = Words::open(options.words.as_ref())?;
-        let key = File::open(&options.key).and_then(|file| read(file, KEY_LIMIT));
-        let key = key.map_err(|error| Problem::file(&options.key, error))?;
-        let count = split_key_words(options.shares, key.len()).map_err(refused)?;
-        let key = Key::split(options.shares, &key, words.lend(count)?).map_err(refused)?;
-        Ok(Tagger { key, words })
+        key.words::<Sha1>()?;
+        Ok(key)
     }
 
+    /// How many words its splitting draws.
+    fn words<H: flamivorse::Hash>(&self) -> Result<Drawn, Problem> {
+        let count = Key::split_for_words::<H>(self.shares, self.bytes.len());
+        count.map_err(|refusal| match refusal {
+            Refusal::ShareCount => Problem::refused(format!("--shares {}", self.shares), refusal),
+            other => Problem::refused(&self.name, other),
+        })
+    }
+
+    /// Splits it for a hash.
+    pub fn split(&self, hash: Hash, words: &mut Words) -> Result<Box<dyn Tagger>, Problem> {
+        match hash {
+            Hash::Sha1 => self.split_for::<Sha1>(words),
+            Hash::Sha256 => self.split_for::<Sha256>(words),
+        }
+    }
+
+    fn split_for<H: flamivorse::Hash>(
+        &self,
+        words: &mut Words,
+    ) -> Result<Box<dyn Tagger>, Problem> {
+        let words = words.lend(self.words::<H>()?)?;
+        let key = Key::split_for::<H>(self.shares, &self.bytes, words);
+        let key = key.map_err(|refusal| Problem::refused(&self.name, refusal))?;
+        Ok(Box::new(key))
+    }
+}
+
+/// What tags logs: a key in shares, whatever its hash is.
+pub trait Tagger {
     /// Reads a log, standard input where its name is `-`, until it ends, and gives its tag.
-    pub fn tag(&mut self, name: &OsStr) -> Result<[u8; TAG_BYTES], Problem> {
+    fn tag(&self, name: &OsStr, words: &mut Words) -> Result<Vec<u8>, Problem>;
+}
+
+impl<H: flamivorse::Hash> Tagger for Key<H> {
+    fn tag(&self, name: &OsStr, words: &mut Words) -> Result<Vec<u8>, Problem> {
         let refused = |refusal| Problem::refused(name, refusal);
         let mut log = Log::open(name)?;
         let mut piece = log.read_piece()?;
         // No words are spent on a log that is already too long.
-        hmac_sha1_words(self.key.share_count(), piece.len()).map_err(refused)?;
-        let count = self.key.start_words().map_err(refused)?;
-        let mut stream = self.key.start(self.words.lend(count)?).map_err(refused)?;
+        self.tag_words(piece.len()).map_err(refused)?;
+        let count = self.start_words().map_err(refused)?;
+        let mut stream = self.start(words.lend(count)?).map_err(refused)?;
         while !piece.is_empty() {
-            let fed = stream.feed_by_blocks(piece, &mut self.words.supply);
+            let fed = stream.feed_by_blocks(piece, &mut words.supply);
             fed.map_err(|failure| match failure {
                 Failure::Refused(refusal) => refused(refusal),
-                Failure::Source(error) => missing(&self.words.name, error),
+                Failure::Source(error) => missing(&words.name, error),
             })?;
             piece = log.read_piece()?;
         }
         let count = stream.finish_words().map_err(refused)?;
-        stream.finish(self.words.lend(count)?).map_err(refused)
+        let tag = stream.finish(words.lend(count)?).map_err(refused)?;
+        Ok(tag.as_ref().to_vec())
     }
 }
 

@@ -13,10 +13,12 @@ mod cleared_tests;
 mod header_tests;
 #[cfg(test)]
 mod refusal_tests;
+#[cfg(test)]
+mod tested;
 
 /// `flamivorse_answer`
 #[repr(C)]
-pub(crate) struct Answer {
+pub struct Answer {
     pub(crate) number: u32,
     pub(crate) drawn: u64,
 }
@@ -43,47 +45,55 @@ impl Opened {
 /// How many words a [`Chain`] has: SHA-1's five in as many shares as there can be.
 pub const CHAIN_WORDS: usize = 5 * SHARES_LIMIT;
 
-/// A chain value of SHA-1 in Boolean shares, cleared when dropped.
+/// How many words a [`Sha256Chain`] has: SHA-256's eight in as many shares as there can be.
+pub const SHA256_CHAIN_WORDS: usize = 8 * SHARES_LIMIT;
+
+/// A chain value of SHA-1: 5n places are used.
+pub type Chain = ChainOf<CHAIN_WORDS>;
+
+/// A chain value of SHA-256: 8n places are used. A [`State`] has it for either hash, with 5n or 8n.
+pub type Sha256Chain = ChainOf<SHA256_CHAIN_WORDS>;
+
+/// A chain value of a hash in Boolean shares, cleared when dropped: a [`Chain`] or a [`Sha256Chain`].
 ///
-/// The first 5n places are used: share i of chain word w at place w·n + i. The others are not
-/// looked at, and are 0 after an accepted compression.
+/// Share i of chain word w stands at place w·n + i. The places after the last word are not looked at,
+/// and are 0 after an accepted compression.
 #[repr(C)]
 #[derive(Clone)]
-pub struct Chain {
+pub struct ChainOf<const WORDS: usize> {
     /// The shares.
-    pub shares: [u32; CHAIN_WORDS],
+    pub shares: [u32; WORDS],
 }
 
-impl Default for Chain {
+impl<const WORDS: usize> Default for ChainOf<WORDS> {
     /// Zeros.
-    fn default() -> Chain {
-        Chain {
-            shares: [0; CHAIN_WORDS],
-        }
+    fn default() -> Self {
+        ChainOf { shares: [0; WORDS] }
     }
 }
 
-impl Drop for Chain {
+impl<const WORDS: usize> Drop for ChainOf<WORDS> {
     fn drop(&mut self) {
         self.shares.zeroize();
     }
 }
 
-impl fmt::Debug for Chain {
+impl<const WORDS: usize> fmt::Debug for ChainOf<WORDS> {
     fn fmt(&self, f: &mut fmt::Formatter<'_>) -> fmt::Result {
         f.debug_struct("Chain").finish_non_exhaustive()
     }
 }
 
-/// `flamivorse_compressed`
+/// `flamivorse_compressed` and `flamivorse_sha256_compressed`
 #[repr(C)]
-pub(crate) struct Compressed {
+pub struct Compressed<C> {
     pub(crate) number: u32,
     pub(crate) drawn: u64,
-    pub(crate) chain: Chain,
+    pub(crate) chain: C,
 }
 
-/// What is carried from piece to piece of a message that is tagged as it comes, cleared when dropped.
+/// What is carried from piece to piece of a message that is tagged as it comes, for either hash,
+/// cleared when dropped.
 ///
 /// Any state may be given to a call: one that is not refused ([`Refusal::StateUnfit`]) is taken as
 /// it stands. Both chains come from the key, and whoever has them can make tags under it.
@@ -99,12 +109,12 @@ pub struct State {
     pub drawn: u64,
     /// 0; 1 after an accepted finish. Anything but 0 counts as finished.
     pub finished: u32,
-    /// The hash that the state belongs to: 0 is SHA-1, and no other number is one.
+    /// The hash that the state belongs to: 0 is SHA-1, 1 is SHA-256, and there is no other.
     pub hash: u32,
     /// The chain after the inner key block and the full blocks of the message.
-    pub inner: Chain,
+    pub inner: Sha256Chain,
     /// The chain after the outer key block.
-    pub outer: Chain,
+    pub outer: Sha256Chain,
     /// The bytes of the block that is not yet full: the first `bytes` modulo 64. The others are not
     /// looked at, and are 0 after an accepted start or feed.
     pub tail: [u8; 64],
@@ -119,8 +129,8 @@ impl Default for State {
             drawn: 0,
             finished: 0,
             hash: 0,
-            inner: Chain::default(),
-            outer: Chain::default(),
+            inner: Sha256Chain::default(),
+            outer: Sha256Chain::default(),
             tail: [0; 64],
         }
     }
@@ -146,7 +156,7 @@ impl fmt::Debug for State {
 
 /// `flamivorse_streamed`
 #[repr(C)]
-pub(crate) struct Streamed {
+pub struct Streamed {
     pub(crate) number: u32,
     pub(crate) drawn: u64,
     pub(crate) state: State,
@@ -188,15 +198,15 @@ fn in_own_frame<T>(calls: impl FnOnce() -> T) -> T {
     calls()
 }
 
-/// Calls a function that takes numbers, reads slices, writes one slice and draws words, and clears
-/// after it. In each place the caller has a `&[T]` or, for what is written, a `&mut [T]`.
+/// Calls a function of the archive that takes numbers, reads slices, writes one slice and draws words,
+/// and clears after it. In each place the caller has a `&[T]` or, for what is written, a `&mut [T]`.
 macro_rules! call {
-    ($function:ident($($value:expr),*), reads [$($input:expr),*], writes $output:expr, draws $words:expr) => {{
+    ($($function:ident)::+($($value:expr),*), reads [$($input:expr),*], writes $output:expr, draws $words:expr) => {{
         let (output, words) = (&mut *$output, $words);
         // SAFETY: of Rust's slices all elements are there, no pointer is null, and what is written
         // overlaps nothing else.
         $crate::archive::cleared(|| unsafe {
-            $crate::archive::$function(
+            $($function)::+(
                 $($value,)*
                 $($input.as_ptr(), $input.len(),)*
                 output.as_mut_ptr(),
@@ -208,11 +218,11 @@ macro_rules! call {
     }};
 }
 
-/// Calls a function that takes numbers alone.
+/// Calls a function of the archive that takes numbers alone.
 macro_rules! query {
-    ($function:ident($($value:expr),*)) => {
+    ($($function:ident)::+($($value:expr),*)) => {
         // SAFETY: it takes any numbers, and no memory.
-        unsafe { $crate::archive::$function($($value),*) }
+        unsafe { $($function)::+($($value),*) }
     };
 }
 
@@ -226,7 +236,7 @@ macro_rules! queries {
         /// # Ok::<(), flamivorse::Refusal>(())
         /// ```
         pub fn $query(n: usize) -> Result<crate::Drawn, crate::Refusal> {
-            $crate::archive::query!($function(n)).result()
+            $crate::archive::query!(archive::$function(n)).result()
         }
     )*};
 }
@@ -240,24 +250,78 @@ extern "C" {
     pub(crate) fn flamivorse_b2a_2_record(x1: u32, r: u32, g: u32, record: *mut u32, record_len: usize) -> u32;
     pub(crate) fn flamivorse_a2b_2_record(a: u32, r: u32, g: u32, record: *mut u32, record_len: usize) -> u32;
 
-    pub(crate) fn flamivorse_split(n: usize, value: u32, shares: *mut u32, shares_len: usize, words: *const u32, words_len: usize) -> Answer;
+    pub(crate) fn flamivorse_split(
+        n: usize, value: u32, shares: *mut u32, shares_len: usize, words: *const u32, words_len: usize
+    ) -> Answer;
     pub(crate) fn flamivorse_open_xor(n: usize, shares: *const u32, shares_len: usize) -> Opened;
     pub(crate) fn flamivorse_open_sum(n: usize, shares: *const u32, shares_len: usize) -> Opened;
-    pub(crate) fn flamivorse_refresh(n: usize, x: *const u32, x_len: usize, y: *mut u32, y_len: usize, words: *const u32, words_len: usize) -> Answer;
-    pub(crate) fn flamivorse_expand(n: usize, x: *const u32, x_len: usize, y: *mut u32, y_len: usize, words: *const u32, words_len: usize) -> Answer;
-    pub(crate) fn flamivorse_and(n: usize, x: *const u32, x_len: usize, y: *const u32, y_len: usize, z: *mut u32, z_len: usize, words: *const u32, words_len: usize) -> Answer;
-    pub(crate) fn flamivorse_add(n: usize, x: *const u32, x_len: usize, y: *const u32, y_len: usize, z: *mut u32, z_len: usize, words: *const u32, words_len: usize) -> Answer;
-    pub(crate) fn flamivorse_a2b(n: usize, a: *const u32, a_len: usize, x: *mut u32, x_len: usize, words: *const u32, words_len: usize) -> Answer;
-    pub(crate) fn flamivorse_b2a(n: usize, x: *const u32, x_len: usize, a: *mut u32, a_len: usize, words: *const u32, words_len: usize) -> Answer;
-    pub(crate) fn flamivorse_b2a_short(n: usize, x: *const u32, x_len: usize, a: *mut u32, a_len: usize, words: *const u32, words_len: usize) -> Answer;
+    pub(crate) fn flamivorse_refresh(
+        n: usize, x: *const u32, x_len: usize, y: *mut u32, y_len: usize, words: *const u32, words_len: usize
+    ) -> Answer;
+    pub(crate) fn flamivorse_expand(
+        n: usize, x: *const u32, x_len: usize, y: *mut u32, y_len: usize, words: *const u32, words_len: usize
+    ) -> Answer;
+    pub(crate) fn flamivorse_and(
+        n: usize, x: *const u32, x_len: usize, y: *const u32, y_len: usize, z: *mut u32, z_len: usize,
+        words: *const u32, words_len: usize
+    ) -> Answer;
+    pub(crate) fn flamivorse_add(
+        n: usize, x: *const u32, x_len: usize, y: *const u32, y_len: usize, z: *mut u32, z_len: usize,
+        words: *const u32, words_len: usize
+    ) -> Answer;
+    pub(crate) fn flamivorse_a2b(
+        n: usize, a: *const u32, a_len: usize, x: *mut u32, x_len: usize, words: *const u32, words_len: usize
+    ) -> Answer;
+    pub(crate) fn flamivorse_b2a(
+        n: usize, x: *const u32, x_len: usize, a: *mut u32, a_len: usize, words: *const u32, words_len: usize
+    ) -> Answer;
+    pub(crate) fn flamivorse_b2a_short(
+        n: usize, x: *const u32, x_len: usize, a: *mut u32, a_len: usize, words: *const u32, words_len: usize
+    ) -> Answer;
 
-    pub(crate) fn flamivorse_split_key(n: usize, key: *const u8, key_len: usize, shares: *mut u32, shares_len: usize, words: *const u32, words_len: usize) -> Answer;
-    pub(crate) fn flamivorse_sha1_compress(n: usize, chain: Chain, block: *const u32, block_len: usize, words: *const u32, words_len: usize) -> Compressed;
-    pub(crate) fn flamivorse_hmac_sha1(n: usize, key: *const u32, key_len: usize, message: *const u8, message_len: usize, tag: *mut u8, tag_len: usize, words: *const u32, words_len: usize) -> Answer;
+    pub(crate) fn flamivorse_split_key(
+        n: usize, key: *const u8, key_len: usize, shares: *mut u32, shares_len: usize,
+        words: *const u32, words_len: usize
+    ) -> Answer;
+    pub(crate) fn flamivorse_sha1_compress(
+        n: usize, chain: Chain, block: *const u32, block_len: usize, words: *const u32, words_len: usize
+    ) -> Compressed<Chain>;
+    pub(crate) fn flamivorse_hmac_sha1(
+        n: usize, key: *const u32, key_len: usize, message: *const u8, message_len: usize,
+        tag: *mut u8, tag_len: usize, words: *const u32, words_len: usize
+    ) -> Answer;
 
-    pub(crate) fn flamivorse_hmac_sha1_start(n: usize, key: *const u32, key_len: usize, words: *const u32, words_len: usize) -> Streamed;
-    pub(crate) fn flamivorse_hmac_sha1_feed(state: State, piece: *const u8, piece_len: usize, words: *const u32, words_len: usize) -> Streamed;
-    pub(crate) fn flamivorse_hmac_sha1_finish(state: State, tag: *mut u8, tag_len: usize, words: *const u32, words_len: usize) -> Streamed;
+    pub(crate) fn flamivorse_hmac_sha1_start(
+        n: usize, key: *const u32, key_len: usize, words: *const u32, words_len: usize
+    ) -> Streamed;
+    pub(crate) fn flamivorse_hmac_sha1_feed(
+        state: State, piece: *const u8, piece_len: usize, words: *const u32, words_len: usize
+    ) -> Streamed;
+    pub(crate) fn flamivorse_hmac_sha1_finish(
+        state: State, tag: *mut u8, tag_len: usize, words: *const u32, words_len: usize
+    ) -> Streamed;
+
+    pub(crate) fn flamivorse_sha256_split_key(
+        n: usize, key: *const u8, key_len: usize, shares: *mut u32, shares_len: usize,
+        words: *const u32, words_len: usize
+    ) -> Answer;
+    pub(crate) fn flamivorse_sha256_compress(
+        n: usize, chain: Sha256Chain, block: *const u32, block_len: usize, words: *const u32, words_len: usize
+    ) -> Compressed<Sha256Chain>;
+    pub(crate) fn flamivorse_hmac_sha256(
+        n: usize, key: *const u32, key_len: usize, message: *const u8, message_len: usize,
+        tag: *mut u8, tag_len: usize, words: *const u32, words_len: usize
+    ) -> Answer;
+
+    pub(crate) fn flamivorse_hmac_sha256_start(
+        n: usize, key: *const u32, key_len: usize, words: *const u32, words_len: usize
+    ) -> Streamed;
+    pub(crate) fn flamivorse_hmac_sha256_feed(
+        state: State, piece: *const u8, piece_len: usize, words: *const u32, words_len: usize
+    ) -> Streamed;
+    pub(crate) fn flamivorse_hmac_sha256_finish(
+        state: State, tag: *mut u8, tag_len: usize, words: *const u32, words_len: usize
+    ) -> Streamed;
 
     pub(crate) fn flamivorse_split_words(n: usize) -> Answer;
     pub(crate) fn flamivorse_refresh_words(n: usize) -> Answer;
@@ -273,6 +337,12 @@ extern "C" {
     pub(crate) fn flamivorse_hmac_sha1_start_words(n: usize) -> Answer;
     pub(crate) fn flamivorse_hmac_sha1_feed_words(state: State, piece_len: usize) -> Answer;
     pub(crate) fn flamivorse_hmac_sha1_finish_words(state: State) -> Answer;
+    pub(crate) fn flamivorse_sha256_split_key_words(n: usize, key_len: usize) -> Answer;
+    pub(crate) fn flamivorse_sha256_compress_words(n: usize) -> Answer;
+    pub(crate) fn flamivorse_hmac_sha256_words(n: usize, message_len: usize) -> Answer;
+    pub(crate) fn flamivorse_hmac_sha256_start_words(n: usize) -> Answer;
+    pub(crate) fn flamivorse_hmac_sha256_feed_words(state: State, piece_len: usize) -> Answer;
+    pub(crate) fn flamivorse_hmac_sha256_finish_words(state: State) -> Answer;
 
     pub(crate) fn flamivorse_clear_stack();
 }

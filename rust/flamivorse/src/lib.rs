@@ -1,5 +1,5 @@
-//! Masked conversions of 32-bit words and masked HMAC-SHA-1, for devices that stand where somebody
-//! may measure them.
+//! Masked conversions of 32-bit words, masked HMAC-SHA-1 and masked HMAC-SHA-256, for devices that
+//! stand where somebody may measure them.
 //!
 //! A secret exists only in shares, and every operation works on shares and on random words that the
 //! caller lends. The work is done by `libflamivorse.a`, which is written in Rattle and proved
@@ -17,6 +17,8 @@
 //! assert_eq!(tag[..4], [0xf6, 0x7d, 0x6c, 0x12]);
 //! # Ok::<(), Box<dyn std::error::Error>>(())
 //! ```
+//!
+//! A key that is split for SHA-256, by [`Key::split_for`], makes tags of that hash.
 //!
 //! A message that comes in pieces is fed to a [`Stream`] as it comes, so that neither it nor all its
 //! words are ever in memory at once:
@@ -42,7 +44,7 @@
 //!
 //! Each call that sees shares or a secret clears, when it is done, what it left on the stack and in
 //! registers. What a program keeps in its own variables is its own to clear; a [`Key`], a
-//! [`Stream`], a [`State`], a [`Chain`] and a [`Supply`] clear themselves.
+//! [`Stream`], a [`State`], a [`Chain`], a [`Sha256Chain`] and a [`Supply`] clear themselves.
 //!
 //! # Words
 //!
@@ -50,9 +52,9 @@
 //! many it drew. Each word must be fresh: no word may serve two draws. For every such call a query
 //! of the same name with `_words` says how many it draws, and a [`Supply`] lends as many.
 //!
-//! They grow with n(n − 1): a tag of the longest message at 16 shares draws 1.3·10^9 words, which are
-//! 5 GB. A [`Stream`] that is fed by blocks asks for the words of three compressions at once at most,
-//! there 15 MB.
+//! They grow with n(n − 1): a tag of the longest message at 16 shares draws 1.3·10^9 words by SHA-1,
+//! which are 5 GB, and 2.4·10^9 by SHA-256. A [`Stream`] that is fed by blocks asks for the words of
+//! three compressions at once at most, there 15 MB or 28 MB.
 
 #![deny(missing_docs)]
 #![deny(unsafe_op_in_unsafe_fn)]
@@ -62,26 +64,35 @@ compile_error!("libflamivorse.a is for x86-64");
 
 mod answer;
 mod archive;
-mod hmac;
+mod hash;
+mod key;
+mod sha1;
+mod sha256;
 mod shares;
 mod stream;
 mod supply;
 mod two;
 
 pub use answer::{Drawn, Refusal};
-pub use archive::{Chain, State, CHAIN_WORDS};
-pub use hmac::{
-    hmac_sha1, hmac_sha1_words, sha1_compress, sha1_compress_words, split_key, split_key_words,
-    Key, KEY_LIMIT, MESSAGE_LIMIT, TAG_BYTES,
+pub use archive::{Chain, ChainOf, Sha256Chain, State, CHAIN_WORDS, SHA256_CHAIN_WORDS};
+pub use hash::{Hash, Sha1, Sha256, KEY_LIMIT, MESSAGE_LIMIT};
+pub use key::Key;
+pub use sha1::{
+    hmac_sha1, hmac_sha1_feed, hmac_sha1_feed_words, hmac_sha1_finish, hmac_sha1_finish_words,
+    hmac_sha1_start, hmac_sha1_start_words, hmac_sha1_words, sha1_compress, sha1_compress_words,
+    split_key, split_key_words, TAG_BYTES,
+};
+pub use sha256::{
+    hmac_sha256, hmac_sha256_feed, hmac_sha256_feed_words, hmac_sha256_finish,
+    hmac_sha256_finish_words, hmac_sha256_start, hmac_sha256_start_words, hmac_sha256_words,
+    sha256_compress, sha256_compress_words, sha256_split_key, sha256_split_key_words,
+    SHA256_TAG_BYTES,
 };
 pub use shares::{
     a2b, a2b_words, add, add_words, and, and_words, b2a, b2a_short, b2a_short_words, b2a_words,
     expand, expand_words, open_sum, open_xor, refresh, refresh_words, split, split_words,
     B2A_SHORT_COUNTS, SHARES_LIMIT,
 };
-pub use stream::{
-    hmac_sha1_feed, hmac_sha1_feed_words, hmac_sha1_finish, hmac_sha1_finish_words,
-    hmac_sha1_start, hmac_sha1_start_words, Failure, Stream, Writer,
-};
+pub use stream::{Failure, Stream, Writer};
 pub use supply::{Bytes, Source, Supply};
 pub use two::{a2b_2, a2b_2_record, b2a_2, b2a_2_record, A2B_2_STEPS, B2A_2_STEPS};

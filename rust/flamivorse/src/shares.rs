@@ -4,7 +4,7 @@
 //! Every slice has n words where nothing else is said. Each call tests its share count, then its
 //! inputs, its output and its words.
 
-use crate::archive::{call, cleared, flamivorse_open_sum, flamivorse_open_xor, queries};
+use crate::archive::{self, call, cleared, queries};
 use crate::{Drawn, Refusal};
 
 /// The largest share count. Every count from 1 to it is allowed.
@@ -25,7 +25,7 @@ pub const B2A_SHORT_COUNTS: [usize; 4] = [1, 2, 4, 8];
 /// # Ok::<(), flamivorse::Refusal>(())
 /// ```
 pub fn split(n: usize, value: u32, shares: &mut [u32], words: &[u32]) -> Result<Drawn, Refusal> {
-    call!(flamivorse_split(n, value), reads [], writes shares, draws words).result()
+    call!(archive::flamivorse_split(n, value), reads [], writes shares, draws words).result()
 }
 
 /// Opens n Boolean shares: their XOR.
@@ -35,7 +35,7 @@ pub fn split(n: usize, value: u32, shares: &mut [u32], words: &[u32]) -> Result<
 /// ```
 pub fn open_xor(n: usize, shares: &[u32]) -> Result<u32, Refusal> {
     // SAFETY: the shares are a slice of Rust's, and nothing is written.
-    cleared(|| unsafe { flamivorse_open_xor(n, shares.as_ptr(), shares.len()) }).result()
+    cleared(|| unsafe { archive::flamivorse_open_xor(n, shares.as_ptr(), shares.len()) }).result()
 }
 
 /// Opens n arithmetic shares: their sum modulo 2^32.
@@ -45,7 +45,7 @@ pub fn open_xor(n: usize, shares: &[u32]) -> Result<u32, Refusal> {
 /// ```
 pub fn open_sum(n: usize, shares: &[u32]) -> Result<u32, Refusal> {
     // SAFETY: the shares are a slice of Rust's, and nothing is written.
-    cleared(|| unsafe { flamivorse_open_sum(n, shares.as_ptr(), shares.len()) }).result()
+    cleared(|| unsafe { archive::flamivorse_open_sum(n, shares.as_ptr(), shares.len()) }).result()
 }
 
 /// Writes to `y` fresh Boolean shares of what `x` shares: each pair of shares gets a word of its own.
@@ -57,7 +57,7 @@ pub fn open_sum(n: usize, shares: &[u32]) -> Result<u32, Refusal> {
 /// # Ok::<(), flamivorse::Refusal>(())
 /// ```
 pub fn refresh(n: usize, x: &[u32], y: &mut [u32], words: &[u32]) -> Result<Drawn, Refusal> {
-    call!(flamivorse_refresh(n), reads [x], writes y, draws words).result()
+    call!(archive::flamivorse_refresh(n), reads [x], writes y, draws words).result()
 }
 
 /// Writes to `y`, of 2n words, twice as many Boolean shares of what `x` shares. From n = 9 on these
@@ -70,7 +70,7 @@ pub fn refresh(n: usize, x: &[u32], y: &mut [u32], words: &[u32]) -> Result<Draw
 /// # Ok::<(), flamivorse::Refusal>(())
 /// ```
 pub fn expand(n: usize, x: &[u32], y: &mut [u32], words: &[u32]) -> Result<Drawn, Refusal> {
-    call!(flamivorse_expand(n), reads [x], writes y, draws words).result()
+    call!(archive::flamivorse_expand(n), reads [x], writes y, draws words).result()
 }
 
 /// Writes to `z` Boolean shares of the AND of what `x` and `y` share.
@@ -82,7 +82,7 @@ pub fn expand(n: usize, x: &[u32], y: &mut [u32], words: &[u32]) -> Result<Drawn
 /// # Ok::<(), flamivorse::Refusal>(())
 /// ```
 pub fn and(n: usize, x: &[u32], y: &[u32], z: &mut [u32], words: &[u32]) -> Result<Drawn, Refusal> {
-    call!(flamivorse_and(n), reads [x, y], writes z, draws words).result()
+    call!(archive::flamivorse_and(n), reads [x, y], writes z, draws words).result()
 }
 
 /// Writes to `z` Boolean shares of the sum modulo 2^32 of what `x` and `y` share, both Boolean.
@@ -97,7 +97,7 @@ pub fn and(n: usize, x: &[u32], y: &[u32], z: &mut [u32], words: &[u32]) -> Resu
 /// # Ok::<(), Box<dyn std::error::Error>>(())
 /// ```
 pub fn add(n: usize, x: &[u32], y: &[u32], z: &mut [u32], words: &[u32]) -> Result<Drawn, Refusal> {
-    call!(flamivorse_add(n), reads [x, y], writes z, draws words).result()
+    call!(archive::flamivorse_add(n), reads [x, y], writes z, draws words).result()
 }
 
 /// Arithmetic to Boolean: writes to `x` Boolean shares of what `a` shares arithmetically.
@@ -112,7 +112,7 @@ pub fn add(n: usize, x: &[u32], y: &[u32], z: &mut [u32], words: &[u32]) -> Resu
 /// # Ok::<(), Box<dyn std::error::Error>>(())
 /// ```
 pub fn a2b(n: usize, a: &[u32], x: &mut [u32], words: &[u32]) -> Result<Drawn, Refusal> {
-    call!(flamivorse_a2b(n), reads [a], writes x, draws words).result()
+    call!(archive::flamivorse_a2b(n), reads [a], writes x, draws words).result()
 }
 
 /// Boolean to arithmetic: writes to `a` arithmetic shares of what `x` shares by XOR.
@@ -127,7 +127,7 @@ pub fn a2b(n: usize, a: &[u32], x: &mut [u32], words: &[u32]) -> Result<Drawn, R
 /// # Ok::<(), Box<dyn std::error::Error>>(())
 /// ```
 pub fn b2a(n: usize, x: &[u32], a: &mut [u32], words: &[u32]) -> Result<Drawn, Refusal> {
-    call!(flamivorse_b2a(n), reads [x], writes a, draws words).result()
+    call!(archive::flamivorse_b2a(n), reads [x], writes a, draws words).result()
 }
 
 /// Boolean to arithmetic by the short conversion, which has no carry loop: writes to `a` arithmetic
@@ -145,7 +145,7 @@ pub fn b2a(n: usize, x: &[u32], a: &mut [u32], words: &[u32]) -> Result<Drawn, R
 /// # Ok::<(), Box<dyn std::error::Error>>(())
 /// ```
 pub fn b2a_short(n: usize, x: &[u32], a: &mut [u32], words: &[u32]) -> Result<Drawn, Refusal> {
-    call!(flamivorse_b2a_short(n), reads [x], writes a, draws words).result()
+    call!(archive::flamivorse_b2a_short(n), reads [x], writes a, draws words).result()
 }
 
 queries! {

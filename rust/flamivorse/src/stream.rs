@@ -1,153 +1,16 @@
-//! HMAC-SHA-1 of a message that comes in pieces: the calls on a state, a stream that keeps one, and
-//! ways to feed it from a supply.
+//! A stream: a message that comes in pieces, tagged by one hash, and ways to feed it from a supply.
 
-use crate::answer::drawn;
-use crate::archive::{
-    cleared, flamivorse_hmac_sha1_feed, flamivorse_hmac_sha1_finish, flamivorse_hmac_sha1_start,
-    queries, query, Streamed,
-};
-use crate::{Drawn, Key, Refusal, Source, State, Supply, TAG_BYTES};
+use crate::archive::cleared;
+use crate::hash;
+use crate::{Drawn, Hash, Key, Refusal, Sha1, Source, State, Supply};
 use std::error::Error;
 use std::fmt;
 use std::io::{self, Write};
 use std::iter;
+use std::marker::PhantomData;
 
 /// The bytes of a block.
 const BLOCK_BYTES: usize = 64;
-
-/// Starts a message under a key of 16n words as [`split_key`](crate::split_key) writes it: `state`
-/// becomes the one before the first byte. A refusal leaves it as it came.
-///
-/// [`Key::start`] does the same and keeps the state.
-///
-/// ```
-/// use flamivorse::{hmac_sha1_feed, hmac_sha1_finish, hmac_sha1_start, split_key, State, TAG_BYTES};
-///
-/// let (mut key, mut state, mut tag) = ([0; 16], State::default(), [0; TAG_BYTES]);
-/// split_key(1, b"Jefe", &mut key, &[])?;
-/// hmac_sha1_start(1, &key, &mut state, &[])?;
-/// hmac_sha1_feed(&mut state, b"what do ya want ", &[])?;
-/// hmac_sha1_feed(&mut state, b"for nothing?", &[])?;
-/// hmac_sha1_finish(&mut state, &mut tag, &[])?;
-/// assert_eq!(tag[..4], [0xef, 0xfc, 0xdf, 0x6a]);
-/// # Ok::<(), flamivorse::Refusal>(())
-/// ```
-pub fn hmac_sha1_start(
-    n: usize,
-    key: &[u32],
-    state: &mut State,
-    words: &[u32],
-) -> Result<Drawn, Refusal> {
-    cleared(|| {
-        // SAFETY: both are slices of Rust's, and nothing is written.
-        let answer = unsafe {
-            flamivorse_hmac_sha1_start(n, key.as_ptr(), key.len(), words.as_ptr(), words.len())
-        };
-        taken(answer, state)
-    })
-}
-
-/// Feeds one more piece of the message, of any length: each block that becomes full is compressed
-/// at once. A refusal leaves the state as it came.
-///
-/// All pieces together have at most [`MESSAGE_LIMIT`](crate::MESSAGE_LIMIT) bytes. The archive takes
-/// and gives the state by value: what [`sha1_compress`](crate::sha1_compress) says of the copies of a
-/// chain holds here too.
-pub fn hmac_sha1_feed(state: &mut State, piece: &[u8], words: &[u32]) -> Result<Drawn, Refusal> {
-    cleared(|| {
-        // SAFETY: both are slices of Rust's, the state goes by value, and nothing is written.
-        let answer = unsafe {
-            flamivorse_hmac_sha1_feed(
-                state.clone(),
-                piece.as_ptr(),
-                piece.len(),
-                words.as_ptr(),
-                words.len(),
-            )
-        };
-        taken(answer, state)
-    })
-}
-
-/// Writes the tag of all that was fed, and marks the state as finished, which is all that changes in
-/// it. A refusal leaves both as they came.
-///
-/// `tag` has [`TAG_BYTES`] bytes. The tag is opened, and nothing else. A copy of the state from
-/// before can be fed further or finished again.
-pub fn hmac_sha1_finish(
-    state: &mut State,
-    tag: &mut [u8],
-    words: &[u32],
-) -> Result<Drawn, Refusal> {
-    cleared(|| {
-        // SAFETY: both are slices of Rust's that do not overlap, and the state goes by value.
-        let answer = unsafe {
-            flamivorse_hmac_sha1_finish(
-                state.clone(),
-                tag.as_mut_ptr(),
-                tag.len(),
-                words.as_ptr(),
-                words.len(),
-            )
-        };
-        taken(answer, state)
-    })
-}
-
-/// Takes over the state of an accepted call, and how many words it drew.
-fn taken(answer: Streamed, state: &mut State) -> Result<Drawn, Refusal> {
-    let drawn = drawn(answer.number, answer.drawn)?;
-    *state = answer.state;
-    Ok(drawn)
-}
-
-queries! {
-    hmac_sha1_start_words = flamivorse_hmac_sha1_start_words, "hmac_sha1_start", 20_880;
-}
-
-/// How many words [`hmac_sha1_feed`] draws for a piece of `piece_len` bytes.
-///
-/// ```
-/// use flamivorse::{hmac_sha1_feed_words, hmac_sha1_start, Refusal, State, MESSAGE_LIMIT};
-/// # let (key, words) = ([0; 32], [0; 20_880]);
-///
-/// let mut state = State::default();
-/// assert_eq!(hmac_sha1_feed_words(&state, 1), Err(Refusal::StateUnfit));
-/// hmac_sha1_start(2, &key, &mut state, &words)?;
-/// assert_eq!(hmac_sha1_feed_words(&state, 63)?.words(), 0);
-/// assert_eq!(hmac_sha1_feed_words(&state, 64)?.words(), 10_440);
-/// assert_eq!(hmac_sha1_feed_words(&state, MESSAGE_LIMIT + 1), Err(Refusal::TooLong));
-/// # Ok::<(), Refusal>(())
-/// ```
-pub fn hmac_sha1_feed_words(state: &State, piece_len: usize) -> Result<Drawn, Refusal> {
-    query!(flamivorse_hmac_sha1_feed_words(outline(state), piece_len)).result()
-}
-
-/// How many words [`hmac_sha1_finish`] draws.
-///
-/// ```
-/// use flamivorse::{hmac_sha1_feed, hmac_sha1_finish_words, hmac_sha1_start, State};
-/// # let (key, words) = ([0; 32], [0; 20_880]);
-///
-/// let mut state = State::default();
-/// hmac_sha1_start(2, &key, &mut state, &words)?;
-/// hmac_sha1_feed(&mut state, &[0; 55], &[])?;
-/// assert_eq!(hmac_sha1_finish_words(&state)?.words(), 20_880);
-/// hmac_sha1_feed(&mut state, &[0], &[])?;
-/// assert_eq!(hmac_sha1_finish_words(&state)?.words(), 31_320);
-/// # Ok::<(), flamivorse::Refusal>(())
-/// ```
-pub fn hmac_sha1_finish_words(state: &State) -> Result<Drawn, Refusal> {
-    query!(flamivorse_hmac_sha1_finish_words(outline(state))).result()
-}
-
-/// All of a state that a query looks at, so that no share is copied for it.
-fn outline(state: &State) -> State {
-    let mut outline = State::default();
-    (outline.n, outline.bytes, outline.drawn) = (state.n, state.bytes, state.drawn);
-    (outline.finished, outline.hash) = (state.finished, state.hash);
-    outline
-}
 
 /// A message that is tagged as it comes, piece by piece: its state, cleared when dropped.
 ///
@@ -182,53 +45,67 @@ fn outline(state: &State) -> State {
 /// assert_ne!(stream.finish(&[])?, so_far);
 /// # Ok::<(), flamivorse::Refusal>(())
 /// ```
-pub struct Stream {
+///
+/// A stream is of its key's hash, and so is its tag:
+///
+/// ```
+/// use flamivorse::{Key, Sha256, Stream};
+///
+/// let mut stream: Stream<Sha256> = Key::split_for::<Sha256>(1, b"Jefe", &[])?.start(&[])?;
+/// stream.feed(b"what do ya want for nothing?", &[])?;
+/// assert_eq!(stream.finish(&[])?[..4], [0x5b, 0xdc, 0xc1, 0x46]);
+/// # Ok::<(), flamivorse::Refusal>(())
+/// ```
+///
+/// ```compile_fail,E0308
+/// use flamivorse::{Key, Sha256, Stream};
+///
+/// let mut stream: Stream<Sha256> = Key::split(1, b"Jefe", &[])?.start(&[])?;
+/// # Ok::<(), flamivorse::Refusal>(())
+/// ```
+pub struct Stream<H = Sha1> {
     /// In a box, so that moving the stream leaves no shares behind.
     state: Box<State>,
+    hash: PhantomData<H>,
 }
 
-impl Key {
-    /// Starts a message that comes in pieces, as [`hmac_sha1_start`] does.
-    pub fn start(&self, words: &[u32]) -> Result<Stream, Refusal> {
-        let mut state = Box::default();
-        hmac_sha1_start(self.share_count(), self.shares(), &mut state, words)?;
-        Ok(Stream { state })
+impl<H: Hash> Key<H> {
+    /// Starts a message that comes in pieces, as [`hmac_sha1_start`](crate::hmac_sha1_start) or
+    /// [`hmac_sha256_start`](crate::hmac_sha256_start) does.
+    pub fn start(&self, words: &[u32]) -> Result<Stream<H>, Refusal> {
+        let (mut state, hash) = (Box::default(), PhantomData);
+        hash::start::<H>(self.share_count(), self.shares(), &mut state, words)?;
+        Ok(Stream { state, hash })
     }
 
     /// How many words [`Key::start`] draws.
     pub fn start_words(&self) -> Result<Drawn, Refusal> {
-        hmac_sha1_start_words(self.share_count())
+        hash::start_words::<H>(self.share_count())
     }
 }
 
-impl Stream {
-    /// Feeds one more piece, as [`hmac_sha1_feed`] does.
+impl<H: Hash> Stream<H> {
+    /// Feeds one more piece, as [`hmac_sha1_feed`](crate::hmac_sha1_feed) does.
     pub fn feed(&mut self, piece: &[u8], words: &[u32]) -> Result<Drawn, Refusal> {
-        hmac_sha1_feed(&mut self.state, piece, words)
+        hash::feed::<H>(&mut self.state, piece, words)
     }
 
     /// How many words [`Stream::feed`] draws for a piece of `piece_len` bytes.
     pub fn feed_words(&self, piece_len: usize) -> Result<Drawn, Refusal> {
-        hmac_sha1_feed_words(&self.state, piece_len)
+        hash::feed_words::<H>(&self.state, piece_len)
     }
 
-    /// The tag of all that was fed, as [`hmac_sha1_finish`] gives it. After it the stream refuses
-    /// every call.
-    pub fn finish(&mut self, words: &[u32]) -> Result<[u8; TAG_BYTES], Refusal> {
-        let mut tag = [0; TAG_BYTES];
-        hmac_sha1_finish(&mut self.state, &mut tag, words)?;
+    /// The tag of all that was fed, as [`hmac_sha1_finish`](crate::hmac_sha1_finish) gives it. After it
+    /// the stream refuses every call.
+    pub fn finish(&mut self, words: &[u32]) -> Result<H::Tag, Refusal> {
+        let mut tag = H::Tag::default();
+        hash::finish::<H>(&mut self.state, tag.as_mut(), words)?;
         Ok(tag)
     }
 
     /// How many words [`Stream::finish`] draws.
     pub fn finish_words(&self) -> Result<Drawn, Refusal> {
-        hmac_sha1_finish_words(&self.state)
-    }
-
-    /// The state as it stands.
-    #[must_use]
-    pub fn state(&self) -> &State {
-        &self.state
+        hash::finish_words::<H>(&self.state)
     }
 
     /// Feeds one more piece, of any length, with words from a supply, which lends the words of one
@@ -273,7 +150,7 @@ impl Stream {
     /// assert_eq!(tag[..4], [0xef, 0xfc, 0xdf, 0x6a]);
     /// # Ok::<(), Box<dyn std::error::Error>>(())
     /// ```
-    pub fn writer<'a, S>(&'a mut self, supply: &'a mut Supply<S>) -> Writer<'a, S> {
+    pub fn writer<'a, S>(&'a mut self, supply: &'a mut Supply<S>) -> Writer<'a, S, H> {
         Writer {
             stream: self,
             supply,
@@ -281,15 +158,24 @@ impl Stream {
     }
 }
 
-impl Clone for Stream {
-    fn clone(&self) -> Stream {
+impl<H> Stream<H> {
+    /// The state as it stands.
+    #[must_use]
+    pub fn state(&self) -> &State {
+        &self.state
+    }
+}
+
+impl<H> Clone for Stream<H> {
+    fn clone(&self) -> Stream<H> {
         cleared(|| Stream {
             state: self.state.clone(),
+            hash: PhantomData,
         })
     }
 }
 
-impl fmt::Debug for Stream {
+impl<H> fmt::Debug for Stream<H> {
     fn fmt(&self, f: &mut fmt::Formatter<'_>) -> fmt::Result {
         f.debug_struct("Stream")
             .field("state", &self.state)
@@ -300,15 +186,16 @@ impl fmt::Debug for Stream {
 /// A stream and the supply of its words, to write a message to; made by [`Stream::writer`].
 ///
 /// Each write feeds all that it is given, or nothing ([`Stream::feed_by_blocks`]).
-pub struct Writer<'a, S> {
-    stream: &'a mut Stream,
+pub struct Writer<'a, S, H = Sha1> {
+    stream: &'a mut Stream<H>,
     supply: &'a mut Supply<S>,
 }
 
-impl<S> Write for Writer<'_, S>
+impl<S, H> Write for Writer<'_, S, H>
 where
     S: Source,
     S::Error: Into<io::Error>,
+    H: Hash,
 {
     fn write(&mut self, piece: &[u8]) -> io::Result<usize> {
         self.stream.feed_by_blocks(piece, self.supply)?;

@@ -2,7 +2,7 @@
 //! that records its steps.
 
 use crate::answer::done;
-use crate::archive::{cleared, flamivorse_a2b_2_record, flamivorse_b2a_2_record, query};
+use crate::archive::{self, cleared, query};
 use crate::Refusal;
 
 /// How many steps Boolean to arithmetic has: the length of its record.
@@ -20,7 +20,7 @@ pub const A2B_2_STEPS: usize = 165;
 /// ```
 #[must_use]
 pub fn b2a_2(x1: u32, r: u32, g: u32) -> u32 {
-    cleared(|| query!(flamivorse_b2a_2(x1, r, g)))
+    cleared(|| query!(archive::flamivorse_b2a_2(x1, r, g)))
 }
 
 /// Arithmetic to Boolean: from `a` and `r` with x = `a` + `r` modulo 2^32, and the fresh word `g`,
@@ -32,7 +32,7 @@ pub fn b2a_2(x1: u32, r: u32, g: u32) -> u32 {
 /// ```
 #[must_use]
 pub fn a2b_2(a: u32, r: u32, g: u32) -> u32 {
-    cleared(|| query!(flamivorse_a2b_2(a, r, g)))
+    cleared(|| query!(archive::flamivorse_a2b_2(a, r, g)))
 }
 
 /// Boolean to arithmetic as [`b2a_2`], writing the value of each step to `record`, in order; the
@@ -51,7 +51,7 @@ pub fn a2b_2(a: u32, r: u32, g: u32) -> u32 {
 pub fn b2a_2_record(x1: u32, r: u32, g: u32, record: &mut [u32]) -> Result<(), Refusal> {
     // SAFETY: the record is a slice of Rust's, and nothing else is lent.
     done(cleared(|| unsafe {
-        flamivorse_b2a_2_record(x1, r, g, record.as_mut_ptr(), record.len())
+        archive::flamivorse_b2a_2_record(x1, r, g, record.as_mut_ptr(), record.len())
     }))
 }
 
@@ -71,6 +71,6 @@ pub fn b2a_2_record(x1: u32, r: u32, g: u32, record: &mut [u32]) -> Result<(), R
 pub fn a2b_2_record(a: u32, r: u32, g: u32, record: &mut [u32]) -> Result<(), Refusal> {
     // SAFETY: the record is a slice of Rust's, and nothing else is lent.
     done(cleared(|| unsafe {
-        flamivorse_a2b_2_record(a, r, g, record.as_mut_ptr(), record.len())
+        archive::flamivorse_a2b_2_record(a, r, g, record.as_mut_ptr(), record.len())
     }))
 }

@@ -16,7 +16,7 @@ typedef struct {
     uint32_t values[3];
     lent_words inputs[2], output, words;
     lent_bytes bytes, tag;
-    flamivorse_chain *chain, *outer;
+    uint32_t *chain, *outer;
     uint8_t *tail;
 } arguments;
 
@@ -46,20 +46,30 @@ static outcome counted(flamivorse_answer answer)
     return (outcome){answer.number, answer.drawn};
 }
 
-/* The chain handed back takes the place of the one given. */
-static outcome compressed(arguments *a, flamivorse_compressed answer)
-{
-    *a->chain = answer.chain;
-    return (outcome){answer.number, answer.drawn};
-}
+/* Of a hash: the chain of a compression, which is the first of the words lent for a chain; and the answer of one as an
+ * outcome, where the chain handed back takes the place of the one given. */
+#define CHAIN(hash, chain_type, answer_type)                           \
+    static chain_type hash##_chain(const arguments *a)                 \
+    {                                                                  \
+        chain_type chain;                                              \
+        memcpy(&chain, a->chain, sizeof chain);                        \
+        return chain;                                                  \
+    }                                                                  \
+    static outcome hash##_compressed(arguments *a, answer_type answer) \
+    {                                                                  \
+        memcpy(a->chain, &answer.chain, sizeof answer.chain);          \
+        return (outcome){answer.number, answer.drawn};                 \
+    }
+CHAIN(sha1, flamivorse_chain, flamivorse_compressed)
+CHAIN(sha256, flamivorse_sha256_chain, flamivorse_sha256_compressed)
 
-/* So does the state. */
+/* The state handed back takes the place of the one given. */
 static outcome streamed(arguments *a, flamivorse_streamed answer)
 {
     const flamivorse_state *state = &answer.state;
     a->state = (outline){state->n, state->bytes, state->drawn, state->finished, state->hash};
-    *a->chain = state->inner;
-    *a->outer = state->outer;
+    memcpy(a->chain, &state->inner, sizeof state->inner);
+    memcpy(a->outer, &state->outer, sizeof state->outer);
     memcpy(a->tail, state->tail, sizeof state->tail);
     return (outcome){answer.number, answer.drawn};
 }
@@ -81,8 +91,8 @@ static flamivorse_state outlined(outline state)
 static flamivorse_state whole(const arguments *a)
 {
     flamivorse_state made = outlined(a->state);
-    made.inner = *a->chain;
-    made.outer = *a->outer;
+    memcpy(&made.inner, a->chain, sizeof made.inner);
+    memcpy(&made.outer, a->outer, sizeof made.outer);
     memcpy(made.tail, a->tail, sizeof made.tail);
     return made;
 }
@@ -94,6 +104,14 @@ static flamivorse_state whole(const arguments *a)
 #define CHANGE(function, answer, ...) if (IS(function)) return answer(a, flamivorse_##function(__VA_ARGS__))
 #define VALUES a->values[0], a->values[1], a->values[2]
 #define SLICE(slice) a->slice.start, a->slice.length
+/* The calls of a hash: the splitting of a key, the compression, HMAC whole and in pieces. */
+#define HASHED(hash, split_key)                                                                     \
+    CALL(split_key, counted, n, SLICE(bytes), SLICE(output), SLICE(words));                         \
+    CHANGE(hash##_compress, hash##_compressed, n, hash##_chain(a), SLICE(inputs[0]), SLICE(words)); \
+    CALL(hmac_##hash, counted, n, SLICE(inputs[0]), SLICE(bytes), SLICE(tag), SLICE(words));        \
+    CHANGE(hmac_##hash##_start, streamed, n, SLICE(inputs[0]), SLICE(words));                       \
+    CHANGE(hmac_##hash##_feed, streamed, whole(a), SLICE(bytes), SLICE(words));                     \
+    CHANGE(hmac_##hash##_finish, streamed, whole(a), SLICE(tag), SLICE(words))
 
 /* Makes the call of this name. */
 outcome make_by_c(const char *name, arguments *a)
@@ -113,16 +131,20 @@ outcome make_by_c(const char *name, arguments *a)
     CALL(a2b, counted, n, SLICE(inputs[0]), SLICE(output), SLICE(words));
     CALL(b2a, counted, n, SLICE(inputs[0]), SLICE(output), SLICE(words));
     CALL(b2a_short, counted, n, SLICE(inputs[0]), SLICE(output), SLICE(words));
-    CALL(split_key, counted, n, SLICE(bytes), SLICE(output), SLICE(words));
-    CHANGE(sha1_compress, compressed, n, *a->chain, SLICE(inputs[0]), SLICE(words));
-    CALL(hmac_sha1, counted, n, SLICE(inputs[0]), SLICE(bytes), SLICE(tag), SLICE(words));
-    CHANGE(hmac_sha1_start, streamed, n, SLICE(inputs[0]), SLICE(words));
-    CHANGE(hmac_sha1_feed, streamed, whole(a), SLICE(bytes), SLICE(words));
-    CHANGE(hmac_sha1_finish, streamed, whole(a), SLICE(tag), SLICE(words));
+    HASHED(sha1, split_key);
+    HASHED(sha256, sha256_split_key);
     abort();
 }
 
 #define QUERY(function, ...) if (IS(function)) return counted(flamivorse_##function##_words(__VA_ARGS__))
+/* Those of a hash. */
+#define QUERIES(hash, split_key)                       \
+    QUERY(split_key, n, bytes);                        \
+    QUERY(hash##_compress, n);                         \
+    QUERY(hmac_##hash, n, bytes);                      \
+    QUERY(hmac_##hash##_start, n);                     \
+    QUERY(hmac_##hash##_feed, outlined(state), bytes); \
+    QUERY(hmac_##hash##_finish, outlined(state))
 
 /* Asks how many words the call of this name draws. */
 outcome ask_by_c(const char *name, outline state, size_t bytes)
@@ -136,11 +158,7 @@ outcome ask_by_c(const char *name, outline state, size_t bytes)
     QUERY(a2b, n);
     QUERY(b2a, n);
     QUERY(b2a_short, n);
-    QUERY(split_key, n, bytes);
-    QUERY(sha1_compress, n);
-    QUERY(hmac_sha1, n, bytes);
-    QUERY(hmac_sha1_start, n);
-    QUERY(hmac_sha1_feed, outlined(state), bytes);
-    QUERY(hmac_sha1_finish, outlined(state));
+    QUERIES(sha1, split_key);
+    QUERIES(sha256, sha256_split_key);
     abort();
 }

@@ -59,7 +59,7 @@ pub fn make(name: &str, a: &mut Arguments) -> Outcome {
         tail: a.tail.slice_mut().as_mut_ptr(),
     };
     // SAFETY: each slice is a memory of its own, borrowed for the call, and no pointer is null,
-    // since the guards are always there. The chains and the tail have the lengths of the header's.
+    // since the guards are always there. The chains and the tail are as long as the header has them in a state.
     let outcome = unsafe { make_by_c(c_name(name).as_ptr(), &mut given) };
     a.state = given.state;
     outcome

@@ -2,11 +2,12 @@
 //! it.
 
 use crate::by_c;
+use crate::hashes::Hash;
 use crate::lent::{Arguments, Lengths, Outline};
 use crate::states::{by_archive, by_second};
 use flamivorse::{
-    Chain, Drawn, Refusal, State, A2B_2_STEPS, B2A_2_STEPS, B2A_SHORT_COUNTS, KEY_LIMIT,
-    MESSAGE_LIMIT, SHARES_LIMIT, TAG_BYTES,
+    Drawn, Refusal, State, A2B_2_STEPS, B2A_2_STEPS, B2A_SHORT_COUNTS, KEY_LIMIT, MESSAGE_LIMIT,
+    SHARES_LIMIT,
 };
 
 /// The share counts that are not refused; by the short conversion most of them are.
@@ -120,6 +121,8 @@ type Query = [fn(Outline, usize) -> Outcome; 2];
 pub struct Call {
     /// Its name in Rust; in C `flamivorse_` stands before it.
     pub name: &'static str,
+    /// The hash by which it compresses, whatever it is lent.
+    pub hash: Option<Hash>,
     /// Whether it takes a state.
     pub on_state: bool,
     /// The share counts that it does not refuse.
@@ -147,7 +150,7 @@ impl Call {
 
     /// Whether the call compresses, whatever it is lent.
     pub fn is_slow(&self) -> bool {
-        self.name.contains("sha1")
+        self.hash.is_some()
     }
 
     /// The lengths that the call asks for, on a state or at a share count.
@@ -217,31 +220,10 @@ macro_rules! both {
     ]};
 }
 
-/// A compression by the archive. The chain, lent by value, is written back to the arguments.
-fn archive_compress(a: &mut Arguments) -> Outcome {
-    let shares = a.chain_words();
-    let mut chain = Chain { shares };
-    let answer =
-        flamivorse::sha1_compress(a.state.n, &mut chain, a.inputs[0].slice(), a.words.slice());
-    a.chain.slice_mut().copy_from_slice(&chain.shares);
-    answer.into()
-}
-
-/// A compression by `second`.
-fn second_compress(a: &mut Arguments) -> Outcome {
-    let shares = a.chain_words();
-    let chain = second::Chain { shares };
-    let answer = second::sha1_compress(a.state.n, chain, a.inputs[0].slice(), a.words.slice());
-    a.chain.slice_mut().copy_from_slice(&answer.chain.shares);
-    Outcome {
-        number: answer.number,
-        count: answer.drawn,
-    }
-}
-
 /// What a call has where nothing else is said.
 const OPENING: Call = Call {
     name: "open_xor",
+    hash: None,
     on_state: false,
     counts: &COUNTS,
     inputs: [1, 0],
@@ -303,8 +285,8 @@ pub static TWO_SHARE_CALLS: [Call; 4] = [
     },
 ];
 
-/// Every call on n shares.
-pub static CALLS: [Call; 13] = [
+/// Every call on n shares that knows no hash.
+static SHARE_CALLS: [Call; 10] = [
     OPENING,
     Call {
         name: "open_sum",
@@ -413,47 +395,52 @@ pub static CALLS: [Call; 13] = [
         query: Some(both!(|state, _bytes| b2a_short_words(state.n))),
         ..OPENING
     },
-    Call {
-        name: "split_key",
-        inputs: [0, 0],
-        limit: Some(KEY_LIMIT),
-        output: 16,
-        made: both!(|a| split_key(
-            a.state.n,
-            a.bytes.slice(),
-            a.output.slice_mut(),
-            a.words.slice()
-        )),
-        query: Some(both!(|state, bytes| split_key_words(state.n, bytes))),
-        ..OPENING
-    },
-    Call {
-        name: "sha1_compress",
-        inputs: [16, 0],
-        made: [archive_compress, second_compress],
-        query: Some(both!(|state, _bytes| sha1_compress_words(state.n))),
-        ..OPENING
-    },
-    Call {
-        name: "hmac_sha1",
-        inputs: [16, 0],
-        limit: Some(MESSAGE_LIMIT),
-        tag: TAG_BYTES,
-        made: both!(|a| hmac_sha1(
-            a.state.n,
-            a.inputs[0].slice(),
-            a.bytes.slice(),
-            a.tag.slice_mut(),
-            a.words.slice()
-        )),
-        query: Some(both!(|state, bytes| hmac_sha1_words(state.n, bytes))),
-        ..OPENING
-    },
 ];
 
-/// The call of this name on n shares.
-pub fn named(name: &str) -> &'static Call {
-    CALLS.iter().find(|call| call.name == name).expect(name)
+/// A compression of this name in the archive and in `second`. The chain, lent by value, is written
+/// back to the arguments.
+macro_rules! compression {
+    ($function:ident($chain:ident)) => {
+        [
+            |a| {
+                let (block, shares) = (a.inputs[0].slice(), a.chain_words());
+                let mut chain = flamivorse::$chain { shares };
+                let answer = flamivorse::$function(a.state.n, &mut chain, block, a.words.slice());
+                a.put_chain(&chain.shares);
+                answer.into()
+            },
+            |a| {
+                let (block, shares) = (a.inputs[0].slice(), a.chain_words());
+                let chain = second::$chain { shares };
+                let answer = second::$function(a.state.n, chain, block, a.words.slice());
+                a.put_chain(&answer.chain.shares);
+                Outcome {
+                    number: answer.number,
+                    count: answer.drawn,
+                }
+            },
+        ]
+    };
+}
+
+/// A start of this name in the archive and in `second`. Where it is refused the archive hands back
+/// zeros, and the safe call leaves the state as it came; so zeros are given to it.
+macro_rules! start {
+    ($function:ident) => {
+        [
+            |a| {
+                by_archive(a, State::default(), |state, a| {
+                    let (key, words) = (a.inputs[0].slice(), a.words.slice());
+                    flamivorse::$function(a.state.n, key, state, words)
+                })
+            },
+            |a| {
+                by_second(a, |_, a| {
+                    second::$function(a.state.n, a.inputs[0].slice(), a.words.slice())
+                })
+            },
+        ]
+    };
 }
 
 /// The call of this name on a state in the archive and in `second`.
@@ -474,54 +461,148 @@ macro_rules! on_state {
     };
 }
 
-/// Every call of a message in pieces. Where a start is refused the archive hands back zeros, and the
-/// safe call leaves the state as it came; so zeros are given to it.
-pub static STREAM_CALLS: [Call; 3] = [
-    Call {
-        name: "hmac_sha1_start",
-        inputs: [16, 0],
-        made: [
-            |a| {
-                by_archive(a, State::default(), |state, a| {
-                    flamivorse::hmac_sha1_start(
-                        a.state.n,
-                        a.inputs[0].slice(),
-                        state,
-                        a.words.slice(),
-                    )
-                })
+/// The calls of a hash.
+pub struct Hashed {
+    pub hash: Hash,
+    pub split_key: Call,
+    pub compress: Call,
+    pub hmac: Call,
+    pub start: Call,
+    pub feed: Call,
+    pub finish: Call,
+}
+
+/// The calls of a hash by their names, each with its query's, and its chain's.
+macro_rules! hashed {
+    (
+        $hash:ident, $chain:ident;
+        $split_key:ident, $split_key_words:ident;
+        $compress:ident, $compress_words:ident;
+        $hmac:ident, $hmac_words:ident;
+        $start:ident, $start_words:ident;
+        $feed:ident, $feed_words:ident;
+        $finish:ident, $finish_words:ident;
+    ) => {
+        Hashed {
+            hash: Hash::$hash,
+            split_key: Call {
+                name: stringify!($split_key),
+                inputs: [0, 0],
+                limit: Some(KEY_LIMIT),
+                output: 16,
+                made: both!(|a| $split_key(
+                    a.state.n,
+                    a.bytes.slice(),
+                    a.output.slice_mut(),
+                    a.words.slice()
+                )),
+                query: Some(both!(|state, bytes| $split_key_words(state.n, bytes))),
+                ..OPENING
             },
-            |a| {
-                by_second(a, |_, a| {
-                    second::hmac_sha1_start(a.state.n, a.inputs[0].slice(), a.words.slice())
-                })
+            compress: Call {
+                name: stringify!($compress),
+                hash: Some(Hash::$hash),
+                inputs: [16, 0],
+                made: compression!($compress($chain)),
+                query: Some(both!(|state, _bytes| $compress_words(state.n))),
+                ..OPENING
             },
-        ],
-        query: Some(both!(|state, _bytes| hmac_sha1_start_words(state.n))),
-        ..OPENING
+            hmac: Call {
+                name: stringify!($hmac),
+                hash: Some(Hash::$hash),
+                inputs: [16, 0],
+                limit: Some(MESSAGE_LIMIT),
+                tag: Hash::$hash.tag_bytes(),
+                made: both!(|a| $hmac(
+                    a.state.n,
+                    a.inputs[0].slice(),
+                    a.bytes.slice(),
+                    a.tag.slice_mut(),
+                    a.words.slice()
+                )),
+                query: Some(both!(|state, bytes| $hmac_words(state.n, bytes))),
+                ..OPENING
+            },
+            start: Call {
+                name: stringify!($start),
+                hash: Some(Hash::$hash),
+                inputs: [16, 0],
+                made: start!($start),
+                query: Some(both!(|state, _bytes| $start_words(state.n))),
+                ..OPENING
+            },
+            feed: Call {
+                name: stringify!($feed),
+                hash: Some(Hash::$hash),
+                on_state: true,
+                inputs: [0, 0],
+                limit: Some(MESSAGE_LIMIT),
+                made: on_state!($feed(|a| a.bytes.slice())),
+                query: Some([
+                    |state, bytes| flamivorse::$feed_words(&state.into(), bytes).into(),
+                    |state, bytes| second::$feed_words(state.into(), bytes).into(),
+                ]),
+                ..OPENING
+            },
+            finish: Call {
+                name: stringify!($finish),
+                hash: Some(Hash::$hash),
+                on_state: true,
+                inputs: [0, 0],
+                tag: Hash::$hash.tag_bytes(),
+                made: on_state!($finish(|a| a.tag.slice_mut())),
+                query: Some([
+                    |state, _bytes| flamivorse::$finish_words(&state.into()).into(),
+                    |state, _bytes| second::$finish_words(state.into()).into(),
+                ]),
+                ..OPENING
+            },
+        }
+    };
+}
+
+/// Every hash with its calls.
+pub static HASHED: [Hashed; 2] = [
+    hashed! {
+        Sha1, Chain;
+        split_key, split_key_words;
+        sha1_compress, sha1_compress_words;
+        hmac_sha1, hmac_sha1_words;
+        hmac_sha1_start, hmac_sha1_start_words;
+        hmac_sha1_feed, hmac_sha1_feed_words;
+        hmac_sha1_finish, hmac_sha1_finish_words;
     },
-    Call {
-        name: "hmac_sha1_feed",
-        on_state: true,
-        inputs: [0, 0],
-        limit: Some(MESSAGE_LIMIT),
-        made: on_state!(hmac_sha1_feed(|a| a.bytes.slice())),
-        query: Some([
-            |state, bytes| flamivorse::hmac_sha1_feed_words(&state.into(), bytes).into(),
-            |state, bytes| second::hmac_sha1_feed_words(state.into(), bytes).into(),
-        ]),
-        ..OPENING
-    },
-    Call {
-        name: "hmac_sha1_finish",
-        on_state: true,
-        inputs: [0, 0],
-        tag: TAG_BYTES,
-        made: on_state!(hmac_sha1_finish(|a| a.tag.slice_mut())),
-        query: Some([
-            |state, _bytes| flamivorse::hmac_sha1_finish_words(&state.into()).into(),
-            |state, _bytes| second::hmac_sha1_finish_words(state.into()).into(),
-        ]),
-        ..OPENING
+    hashed! {
+        Sha256, Sha256Chain;
+        sha256_split_key, sha256_split_key_words;
+        sha256_compress, sha256_compress_words;
+        hmac_sha256, hmac_sha256_words;
+        hmac_sha256_start, hmac_sha256_start_words;
+        hmac_sha256_feed, hmac_sha256_feed_words;
+        hmac_sha256_finish, hmac_sha256_finish_words;
     },
 ];
+
+impl Hashed {
+    /// The calls on n shares.
+    fn calls(&self) -> [&Call; 3] {
+        [&self.split_key, &self.compress, &self.hmac]
+    }
+
+    /// The calls of a message in pieces.
+    pub fn stream_calls(&self) -> [&Call; 3] {
+        [&self.start, &self.feed, &self.finish]
+    }
+}
+
+/// Every call on n shares.
+pub fn calls() -> impl Iterator<Item = &'static Call> + Clone {
+    SHARE_CALLS
+        .iter()
+        .chain(HASHED.iter().flat_map(Hashed::calls))
+}
+
+/// The call of this name on n shares.
+pub fn named(name: &str) -> &'static Call {
+    calls().find(|call| call.name == name).expect(name)
+}

@@ -1,8 +1,9 @@
 //! Random cases: a call or a query with a share count, lengths and contents of any kind, right and
 //! wrong ones mixed. A seed and a number give the same case on every machine.
 
-use crate::calls::{quick_message, Call, Outcome, Target, CALLS, STREAM_CALLS, TWO_SHARE_CALLS};
-use crate::lent::{compression_words, Arguments, Lengths, Outline};
+use crate::calls::{calls, quick_message, Call, Outcome, Target, HASHED, TWO_SHARE_CALLS};
+use crate::hashes::Hash;
+use crate::lent::{Arguments, Lengths, Outline};
 use crate::random::Random;
 use flamivorse::{KEY_LIMIT, MESSAGE_LIMIT, SHARES_LIMIT};
 
@@ -11,8 +12,8 @@ use flamivorse::{KEY_LIMIT, MESSAGE_LIMIT, SHARES_LIMIT};
 const STREAMED: u32 = 24;
 
 /// A call that draws more words than these is lent a few: the longest message at two shares draws no
-/// more, and at 16 it draws so many that no memory holds them.
-const MOST_WORDS: usize = 1 << 24;
+/// more by either hash, and at 16 it draws so many that no memory holds them.
+const MOST_WORDS: usize = 20_000_000;
 
 /// What is asked of a call: to be made, or how many words it draws.
 enum Asked {
@@ -60,7 +61,7 @@ impl Case {
 
 /// A query, also of lengths that no slice has.
 fn query(random: &mut Random) -> Case {
-    let asked: Vec<&Call> = CALLS.iter().filter(|call| call.query.is_some()).collect();
+    let asked: Vec<&Call> = calls().filter(|call| call.query.is_some()).collect();
     let call = asked[random.below(asked.len())];
     let fitting = fitting(call, random);
     let state = count(call, fitting, random).into();
@@ -71,8 +72,8 @@ fn query(random: &mut Random) -> Case {
 
 /// A query on a state.
 fn query_on_state(random: &mut Random) -> Case {
-    let call = &STREAM_CALLS[random.below(STREAM_CALLS.len())];
-    let state = with_count(call, made_up(call, random), random);
+    let (call, hash) = pick_streamed(&[0, 1, 2], random);
+    let state = with_count(call, made_up(call, hash, random), hash, random);
     let bytes = asked_length(random, |random| piece(call, state.fed, random));
     let asked = Asked::Query { state, bytes };
     Case { call, asked }
@@ -104,11 +105,11 @@ fn made(random: &mut Random) -> Case {
 
 /// A call of a message in pieces on any state, likewise. Most are feeds.
 fn made_on_state(random: &mut Random) -> Case {
-    let call = &STREAM_CALLS[[0, 1, 1, 1, 1, 1, 2, 2][random.below(8)]];
-    let state = made_up(call, random);
+    let (call, hash) = pick_streamed(&[0, 1, 1, 1, 1, 1, 2, 2], random);
+    let state = made_up(call, hash, random);
     let right = call.lengths(state, piece(call, state.fed, random));
     let mut arguments = Arguments::random(state.n, lengths(right, random), random);
-    arguments.make_up(with_count(call, state, random), random);
+    arguments.make_up(with_count(call, state, hash, random), random);
     if random.below(4) == 0 {
         arguments.to_edges(random);
     }
@@ -116,24 +117,33 @@ fn made_on_state(random: &mut Random) -> Case {
     Case { call, asked }
 }
 
-/// A state, mostly a fit one; else it has too many bytes, or one of its other numbers is wrong.
-fn made_up(call: &Call, random: &mut Random) -> Outline {
-    let mut state = Outline::of(fitting(call, random), fed(random));
+/// A call of a message in pieces, one of these places among those of any hash, and the hash.
+fn pick_streamed(places: &[usize], random: &mut Random) -> (&'static Call, Hash) {
+    let hashed = &HASHED[random.below(HASHED.len())];
+    let place = places[random.below(places.len())];
+    (hashed.stream_calls()[place], hashed.hash)
+}
+
+/// A state, mostly a fit one; else it has too many bytes, or one of its other numbers is wrong, or it
+/// is fit for the other hash.
+fn made_up(call: &Call, hash: Hash, random: &mut Random) -> Outline {
+    let mut state = Outline::of(hash, fitting(call, random), fed(random));
     match random.below(64) {
         0 => state.finished = code(random),
-        1 => state.hash = code(random),
-        2 | 3 => state.drawn = other_words(state, random),
+        1 => state.hash = [0, 1, 2, code(random)][random.below(4)],
+        2 | 3 => state.drawn = other_words(state, hash, random),
+        4 => state = Outline::of(hash.other(), state.n, state.fed),
         _ => {}
     }
     state
 }
 
 /// The same with the share count that is given. Where that is another, the words are of either count.
-fn with_count(call: &Call, state: Outline, random: &mut Random) -> Outline {
+fn with_count(call: &Call, state: Outline, hash: Hash, random: &mut Random) -> Outline {
     let mut given = state;
     given.n = count(call, state.n, random);
     if given.n != state.n && random.below(2) == 0 {
-        given.drawn = Outline::of(given.n, given.fed).drawn;
+        given.drawn = Outline::of(hash, given.n, given.fed).drawn;
     }
     given
 }
@@ -159,7 +169,7 @@ fn fed(random: &mut Random) -> u64 {
     }
 }
 
-/// A mark or a hash that is not 0: 1, one bit, or any.
+/// A mark, or a hash: 1, one bit, or any.
 fn code(random: &mut Random) -> u32 {
     match random.below(4) {
         0 | 1 => 1,
@@ -169,20 +179,21 @@ fn code(random: &mut Random) -> u32 {
 }
 
 /// A wrong count of words: one word or one compression off, with those of a finish, of another share
-/// count, right where a number is cut, near 2^64, or any. At one share, where a compression draws
-/// none, it is that of two.
-fn other_words(state: Outline, random: &mut Random) -> u64 {
-    let (right, compression) = (state.drawn, compression_words(state.n.max(2)));
-    match random.below(10) {
+/// count or the other hash, right where a number is cut, near 2^64, or any. At one share, where a
+/// compression draws none, it is that of two.
+fn other_words(state: Outline, hash: Hash, random: &mut Random) -> u64 {
+    let (right, compression) = (state.drawn, hash.compression_words(state.n.max(2)));
+    match random.below(11) {
         0 => right.wrapping_add(1),
         1 => right.wrapping_sub(1),
         2 => right.wrapping_add(compression),
         3 => right.wrapping_sub(compression),
         4 => right.wrapping_add(compression * (2 + random.below(2) as u64)),
-        5 => Outline::of(near_count(random), state.fed).drawn,
-        6 => right.wrapping_add(1 << 32),
-        7 => right.wrapping_add(1 << (32 + random.below(32))),
-        8 => u64::MAX - random.below(64) as u64,
+        5 => Outline::of(hash, near_count(random), state.fed).drawn,
+        6 => Outline::of(hash.other(), state.n, state.fed).drawn,
+        7 => right.wrapping_add(1 << 32),
+        8 => right.wrapping_add(1 << (32 + random.below(32))),
+        9 => u64::MAX - random.below(64) as u64,
         _ => random.number() as u64,
     }
 }
@@ -210,11 +221,9 @@ fn piece(call: &Call, fed: u64, random: &mut Random) -> usize {
 
 /// Any call. Of the slow ones most are put back.
 fn pick(random: &mut Random) -> &'static Call {
+    let all: Vec<&Call> = TWO_SHARE_CALLS.iter().chain(calls()).collect();
     loop {
-        let place = random.below(TWO_SHARE_CALLS.len() + CALLS.len());
-        let call = TWO_SHARE_CALLS
-            .get(place)
-            .unwrap_or_else(|| &CALLS[place - TWO_SHARE_CALLS.len()]);
+        let call = all[random.below(all.len())];
         if !call.is_slow() || random.below(16) == 0 {
             return call;
         }
@@ -326,6 +335,7 @@ fn misfit(right: usize, random: &mut Random) -> usize {
 #[cfg(test)]
 mod tests {
     use super::*;
+    use crate::calls::Hashed;
     use crate::tally::Tally;
     use std::collections::{BTreeMap, BTreeSet};
 
@@ -354,7 +364,7 @@ mod tests {
     fn all_possible() -> BTreeMap<String, [bool; 7]> {
         let two = TWO_SHARE_CALLS.iter();
         let two = two.map(|call| (call.name.into(), possible(call, false)));
-        let calls = CALLS.iter().chain(&STREAM_CALLS);
+        let calls = calls().chain(HASHED.iter().flat_map(Hashed::stream_calls));
         let queries = calls.clone().filter(|call| call.query.is_some());
         let calls = calls.map(|call| (call.name.into(), possible(call, true)));
         let queries = queries.map(|call| (format!("{}_words", call.name), possible_asked(call)));

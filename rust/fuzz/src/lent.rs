@@ -1,7 +1,8 @@
 //! Slices lent to a call, each with guard elements on both sides, and all that a call can be lent.
 
+use crate::hashes::Hash;
 use crate::random::Random;
-use flamivorse::CHAIN_WORDS;
+use flamivorse::SHA256_CHAIN_WORDS;
 use std::fmt;
 
 /// How many guard elements stand on each side.
@@ -75,12 +76,6 @@ impl<T: Clone> Lent<T> {
     }
 }
 
-/// How many words a compression draws at n shares, modulo 2^64.
-pub fn compression_words(n: usize) -> u64 {
-    let n = n as u64;
-    n.wrapping_mul(n.wrapping_sub(1)).wrapping_mul(5220)
-}
-
 /// What a query looks at of a state: its share count, its bytes and words so far, its mark and its
 /// hash. Calls without a state have the share count alone.
 #[repr(C)]
@@ -94,23 +89,29 @@ pub struct Outline {
 }
 
 impl Outline {
-    /// Of a state with so many shares and bytes, and with the words that start and feeds draw for
-    /// them: it is fit where these are allowed.
-    pub fn of(n: usize, fed: u64) -> Outline {
+    /// Of a state of a hash with so many shares and bytes, and with the words that start and feeds
+    /// draw for them: it is fit where these are allowed.
+    pub fn of(hash: Hash, n: usize, fed: u64) -> Outline {
         Outline {
             n,
             fed,
-            drawn: compression_words(n).wrapping_mul(2 + fed / 64),
+            drawn: hash.compression_words(n).wrapping_mul(2 + fed / 64),
             finished: 0,
-            hash: 0,
+            hash: hash.code(),
         }
     }
 }
 
-/// With so many shares, before the first byte.
+/// The share count alone.
 impl From<usize> for Outline {
     fn from(n: usize) -> Outline {
-        Outline::of(n, 0)
+        Outline {
+            n,
+            fed: 0,
+            drawn: 0,
+            finished: 0,
+            hash: 0,
+        }
     }
 }
 
@@ -124,7 +125,8 @@ pub struct Arguments {
     pub inputs: [Lent<u32>; 2],
     pub bytes: Lent<u8>,
     /// The chain of a compression, or the inner one of a state, and the rest of a state: what a call
-    /// takes and hands back by value.
+    /// takes and hands back by value. A chain of SHA-1 by itself is shorter, and the words after it
+    /// are guards.
     pub chain: Lent<u32>,
     pub outer: Lent<u32>,
     pub tail: Lent<u8>,
@@ -149,7 +151,7 @@ impl Arguments {
         let mut words = |length| Lent::inside(random.words(length + 2 * GUARD));
         let inputs = lengths.inputs.map(&mut words);
         let output = words(lengths.output);
-        let chain = words(CHAIN_WORDS);
+        let chain = words(SHA256_CHAIN_WORDS);
         let words = words(lengths.words);
         let mut bytes = |length| Lent::inside(random.bytes(length + 2 * GUARD));
         let (message, tag) = (bytes(lengths.bytes), bytes(lengths.tag));
@@ -160,7 +162,7 @@ impl Arguments {
             inputs,
             bytes: message,
             chain,
-            outer: Lent::zeros(CHAIN_WORDS),
+            outer: Lent::zeros(SHA256_CHAIN_WORDS),
             tail: Lent::zeros(TAIL),
             output,
             tag,
@@ -185,9 +187,14 @@ impl Arguments {
         self.outer.slice_mut().fill_with(|| random.edge());
     }
 
-    /// The chain's words.
-    pub fn chain_words(&self) -> [u32; CHAIN_WORDS] {
-        self.chain.slice().try_into().expect("a chain's length")
+    /// The words of a compression's chain.
+    pub fn chain_words<const WORDS: usize>(&self) -> [u32; WORDS] {
+        std::array::from_fn(|place| self.chain.slice()[place])
+    }
+
+    /// Puts the chain that a compression hands back in the place of the one given.
+    pub fn put_chain(&mut self, words: &[u32]) {
+        self.chain.slice_mut()[..words.len()].copy_from_slice(words);
     }
 
     /// The numbers and slices that differ, each slice with the first place where it does.

@@ -5,7 +5,9 @@
 mod by_c;
 pub mod calls;
 pub mod cases;
+pub mod hashes;
 pub mod lent;
+pub mod outside;
 pub mod random;
 mod states;
 pub mod tally;

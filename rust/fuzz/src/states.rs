@@ -3,7 +3,7 @@
 
 use crate::calls::Outcome;
 use crate::lent::{Arguments, Outline};
-use flamivorse::{Drawn, Refusal, CHAIN_WORDS};
+use flamivorse::{Drawn, Refusal, SHA256_CHAIN_WORDS};
 
 /// The state of one side.
 macro_rules! state_of {
@@ -11,15 +11,15 @@ macro_rules! state_of {
         /// With something in every place that a query does not look at.
         impl From<Outline> for $side::State {
             fn from(state: Outline) -> $side::State {
-                let shares = [0xa5a5_a5a5; CHAIN_WORDS];
+                let shares = [0xa5a5_a5a5; SHA256_CHAIN_WORDS];
                 $side::State {
                     n: state.n,
                     bytes: state.fed,
                     drawn: state.drawn,
                     finished: state.finished,
                     hash: state.hash,
-                    inner: $side::Chain { shares },
-                    outer: $side::Chain { shares },
+                    inner: $side::Sha256Chain { shares },
+                    outer: $side::Sha256Chain { shares },
                     tail: [0xa5; 64],
                 }
             }

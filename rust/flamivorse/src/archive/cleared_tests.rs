@@ -1,12 +1,22 @@
 //! What is left on the stack and in registers: after the archive's own call shares are found there,
-//! after a safe call none are. And what is left of a state that was dropped.
+//! after a safe call none are, and of the stack nothing is. And what is left of a state that was
+//! dropped.
 
+use super::tested::Tested;
 use super::*;
+use crate::hash::{self, Sealed};
+use crate::{Sha1, Sha256};
 use std::arch::asm;
 use std::mem::MaybeUninit;
 
 /// How far below the caller is looked, in words.
-const WORDS: usize = 4096;
+const WORDS: usize = 8192;
+
+/// As much of that has the frames of the safe call itself, which sees no shares.
+const NEAR: usize = 512;
+
+/// What stands on the stack before a call.
+const PAINT: u32 = 0xa5a5_a5a5;
 
 /// The share counts that are tried: some of each form that the addition has, and the largest, which
 /// takes the most stack.
@@ -31,6 +41,23 @@ impl Found {
             registers: Box::new([0; WIDE]),
             widest: is_x86_feature_detected!("avx512f"),
             wide: is_x86_feature_detected!("avx"),
+        }
+    }
+
+    /// Paints the stack below this frame.
+    #[inline(always)]
+    fn paint() {
+        // SAFETY: a thread's stack is far longer, and nothing is kept there.
+        unsafe {
+            asm!(
+                "lea rdi, [rsp - 4 * {words}]",
+                "rep stosd",
+                words = const WORDS,
+                out("rdi") _,
+                inout("rcx") WORDS => _,
+                in("eax") PAINT,
+                options(nostack)
+            );
         }
     }
 
@@ -78,9 +105,15 @@ impl Found {
         words.iter().filter(found).count()
     }
 
+    /// How many words a call has left on the stack, shares or not.
+    fn left(&self) -> usize {
+        let far = &self.stack[..WORDS - NEAR];
+        far.iter().filter(|word| ![0, PAINT].contains(word)).count()
+    }
+
     /// How many of the words that a state's chains use are found.
-    fn of_state(&self, state: &State) -> usize {
-        let used = 5 * state.n;
+    fn of_state<H: Tested>(&self, state: &State) -> usize {
+        let used = H::WORDS * state.n;
         self.count(&state.inner.shares[..used]) + self.count(&state.outer.shares[..used])
     }
 }
@@ -101,18 +134,23 @@ fn fresh(count: usize, seed: u32) -> Vec<u32> {
 
 /// What a compression is given, and what is found after it. The chain is in a box, so that the test
 /// itself leaves nothing of it on the stack.
-struct Compression {
-    chain: Box<Chain>,
+struct Compression<const PLACES: usize> {
+    chain: Box<ChainOf<PLACES>>,
     block: Vec<u32>,
     words: Vec<u32>,
     found: Found,
 }
 
-impl Compression {
-    fn new(n: usize) -> Compression {
-        let mut chain: Box<Chain> = Box::default();
-        chain.shares[..5 * n].copy_from_slice(&fresh(5 * n, CHAIN));
-        let words = crate::sha1_compress_words(n).expect("a right count");
+/// A hash whose chain has so many places.
+trait Chained<const PLACES: usize>: Tested + Sealed<Chain = ChainOf<PLACES>> {}
+impl Chained<CHAIN_WORDS> for Sha1 {}
+impl Chained<SHA256_CHAIN_WORDS> for Sha256 {}
+
+impl<const PLACES: usize> Compression<PLACES> {
+    fn new<H: Chained<PLACES>>(n: usize) -> Self {
+        let mut chain: Box<ChainOf<PLACES>> = Box::default();
+        chain.shares[..H::WORDS * n].copy_from_slice(&fresh(H::WORDS * n, CHAIN));
+        let words = hash::compress_words::<H>(n).expect("a right count");
         Compression {
             chain,
             block: fresh(16 * n, BLOCK),
@@ -124,13 +162,18 @@ impl Compression {
 
 #[test]
 fn shares_are_found_after_the_call_of_the_archive() {
+    compressed_by_the_archive::<Sha1, CHAIN_WORDS>();
+    compressed_by_the_archive::<Sha256, SHA256_CHAIN_WORDS>();
+}
+
+fn compressed_by_the_archive<H: Chained<PLACES>, const PLACES: usize>() {
     for n in COUNTS {
-        let mut call = Compression::new(n);
+        let mut call = Compression::new::<H>(n);
         let (block, words) = (&call.block, &call.words);
-        let chain = Chain::clone(&call.chain);
+        let chain = ChainOf::clone(&call.chain);
         // SAFETY: both are slices of Rust's, and the chain goes by value.
         let answer = unsafe {
-            flamivorse_sha1_compress(
+            (H::FUNCTIONS.compress)(
                 n,
                 chain,
                 block.as_ptr(),
@@ -141,20 +184,27 @@ fn shares_are_found_after_the_call_of_the_archive() {
         };
         call.found.look();
         assert_eq!(answer.number, 0);
-        assert!(call.found.count(&answer.chain.shares[..5 * n]) > 0);
+        assert!(call.found.count(&answer.chain.shares[..H::WORDS * n]) > 0);
     }
 }
 
 #[test]
 fn no_shares_are_found_after_a_safe_call() {
+    compressed_by_the_safe_call::<Sha1, CHAIN_WORDS>();
+    compressed_by_the_safe_call::<Sha256, SHA256_CHAIN_WORDS>();
+}
+
+fn compressed_by_the_safe_call<H: Chained<PLACES>, const PLACES: usize>() {
     for n in COUNTS {
-        let mut call = Compression::new(n);
-        let done = crate::sha1_compress(n, &mut call.chain, &call.block, &call.words);
+        let mut call = Compression::new::<H>(n);
+        Found::paint();
+        let done = hash::compress::<H>(n, &mut call.chain, &call.block, &call.words);
         call.found.look();
         assert!(done.is_ok());
+        assert_eq!(call.found.left(), 0);
         assert_eq!(call.found.count(&call.block), 0);
-        assert_eq!(call.found.count(&fresh(5 * n, CHAIN)), 0);
-        assert_eq!(call.found.count(&call.chain.shares[..5 * n]), 0);
+        assert_eq!(call.found.count(&fresh(H::WORDS * n, CHAIN)), 0);
+        assert_eq!(call.found.count(&call.chain.shares[..H::WORDS * n]), 0);
     }
 }
 
@@ -172,8 +222,8 @@ struct Splitting {
 }
 
 impl Splitting {
-    fn new(n: usize) -> Splitting {
-        let words = crate::split_key_words(n, crate::KEY_LIMIT).expect("a right count");
+    fn new<H: Tested>(n: usize) -> Splitting {
+        let words = hash::split_key_words::<H>(n, crate::KEY_LIMIT).expect("a right count");
         let key = plain_key().into_iter().flat_map(u32::to_be_bytes);
         Splitting {
             key: key.collect(),
@@ -184,23 +234,28 @@ impl Splitting {
     }
 
     /// How many are found of the last shares of the key's words, and of the shares of its digest.
-    fn count(&self) -> [usize; 2] {
+    fn count<H: Tested>(&self) -> [usize; 2] {
         let n = self.shares.len() / 16;
         let drawn = |place: usize| &self.words[place * (n - 1)..][..n - 1];
         let last = |(place, word)| drawn(place).iter().fold(word, |last, word| last ^ word);
         let lasts: Vec<u32> = (0..).zip(plain_key()).map(last).collect();
-        [&lasts, &self.shares[..5 * n]].map(|words| self.found.count(words))
+        [&lasts, &self.shares[..H::WORDS * n]].map(|words| self.found.count(words))
     }
 }
 
 #[test]
 fn shares_are_found_after_the_archive_has_split_a_long_key() {
+    split_by_the_archive::<Sha1>();
+    split_by_the_archive::<Sha256>();
+}
+
+fn split_by_the_archive<H: Tested>() {
     for n in COUNTS {
-        let mut call = Splitting::new(n);
+        let mut call = Splitting::new::<H>(n);
         let (key, shares, words) = (&call.key, &mut call.shares, &call.words);
         // SAFETY: all are slices of Rust's, and none overlaps another.
         let answer = unsafe {
-            flamivorse_split_key(
+            (H::FUNCTIONS.split_key)(
                 n,
                 key.as_ptr(),
                 key.len(),
@@ -212,18 +267,25 @@ fn shares_are_found_after_the_archive_has_split_a_long_key() {
         };
         call.found.look();
         assert_eq!(answer.number, 0);
-        assert!(call.count().into_iter().all(|found| found > 0));
+        assert!(call.count::<H>().into_iter().all(|found| found > 0));
     }
 }
 
 #[test]
 fn no_shares_are_found_after_a_long_key_is_split() {
+    split_by_the_safe_call::<Sha1>();
+    split_by_the_safe_call::<Sha256>();
+}
+
+fn split_by_the_safe_call<H: Tested>() {
     for n in COUNTS {
-        let mut call = Splitting::new(n);
-        let done = crate::split_key(n, &call.key, &mut call.shares, &call.words);
+        let mut call = Splitting::new::<H>(n);
+        Found::paint();
+        let done = hash::split_key::<H>(n, &call.key, &mut call.shares, &call.words);
         call.found.look();
         assert!(done.is_ok());
-        assert_eq!(call.count(), [0, 0]);
+        assert_eq!(call.found.left(), 0);
+        assert_eq!(call.count::<H>(), [0, 0]);
         assert_eq!(call.found.count(&plain_key()), 0);
     }
 }
@@ -237,14 +299,13 @@ struct Streaming {
 }
 
 impl Streaming {
-    fn new(n: usize) -> Streaming {
-        let mut state: Box<State> = Box::default();
-        (state.n, state.bytes) = (n, 63);
-        let started = crate::hmac_sha1_start_words(n).expect("a right count");
-        state.drawn = started.words() as u64;
-        state.inner.shares[..5 * n].copy_from_slice(&fresh(5 * n, CHAIN));
-        state.outer.shares[..5 * n].copy_from_slice(&fresh(5 * n, OUTER));
-        let words = crate::hmac_sha1_finish_words(&state).expect("a fit state");
+    fn new<H: Tested>(n: usize) -> Streaming {
+        let (mut state, used): (Box<State>, _) = (Box::default(), H::WORDS * n);
+        (state.n, state.bytes, state.hash) = (n, 63, H::CODE);
+        state.drawn = 2 * H::compression_words(n);
+        state.inner.shares[..used].copy_from_slice(&fresh(used, CHAIN));
+        state.outer.shares[..used].copy_from_slice(&fresh(used, OUTER));
+        let words = hash::finish_words::<H>(&state).expect("a fit state");
         Streaming {
             state,
             words: fresh(words.words(), SUPPLY),
@@ -255,45 +316,66 @@ impl Streaming {
 
 #[test]
 fn chains_are_found_after_a_feed_of_the_archive() {
+    fed_by_the_archive::<Sha1>();
+    fed_by_the_archive::<Sha256>();
+}
+
+fn fed_by_the_archive<H: Tested>() {
     for n in COUNTS {
-        let mut call = Streaming::new(n);
+        let mut call = Streaming::new::<H>(n);
         let (given, words) = (State::clone(&call.state), &call.words);
         // SAFETY: both are slices of Rust's, and the state goes by value.
-        let answer = unsafe {
-            flamivorse_hmac_sha1_feed(given, [0].as_ptr(), 1, words.as_ptr(), words.len())
-        };
+        let answer =
+            unsafe { (H::FUNCTIONS.feed)(given, [0].as_ptr(), 1, words.as_ptr(), words.len()) };
         call.found.look();
         assert_eq!(answer.number, 0);
-        assert!(call.found.of_state(&answer.state) > 0);
+        assert!(call.found.of_state::<H>(&answer.state) > 0);
     }
 }
 
 #[test]
 fn no_chains_are_found_after_a_safe_call_on_a_state() {
+    fed_by_the_safe_call::<Sha1>();
+    fed_by_the_safe_call::<Sha256>();
+}
+
+fn fed_by_the_safe_call<H: Tested>() {
     for n in COUNTS {
-        let mut call = Streaming::new(n);
-        let fed = crate::hmac_sha1_feed(&mut call.state, &[0], &call.words);
+        let mut call = Streaming::new::<H>(n);
+        Found::paint();
+        let fed = hash::feed::<H>(&mut call.state, &[0], &call.words);
         call.found.look();
         assert!(fed.is_ok());
-        assert_eq!(call.found.count(&fresh(5 * n, CHAIN)), 0);
-        assert_eq!(call.found.of_state(&call.state), 0);
+        assert_eq!(call.found.left(), 0);
+        assert_eq!(call.found.count(&fresh(H::WORDS * n, CHAIN)), 0);
+        assert_eq!(call.found.of_state::<H>(&call.state), 0);
 
-        let finished = crate::hmac_sha1_finish(&mut call.state, &mut [0; 20], &call.words);
+        let mut tag = H::Tag::default();
+        Found::paint();
+        let finished = hash::finish::<H>(&mut call.state, tag.as_mut(), &call.words);
         call.found.look();
         assert!(finished.is_ok());
-        assert_eq!(call.found.of_state(&call.state), 0);
+        assert_eq!(call.found.left(), 0);
+        assert_eq!(call.found.of_state::<H>(&call.state), 0);
     }
 }
 
 #[test]
 fn no_chains_are_found_after_a_start() {
+    started_by_the_safe_call::<Sha1>();
+    started_by_the_safe_call::<Sha256>();
+}
+
+fn started_by_the_safe_call<H: Tested>() {
     for n in COUNTS {
-        let mut call = Streaming::new(n);
-        let started =
-            crate::hmac_sha1_start(n, &fresh(16 * n, BLOCK), &mut call.state, &call.words);
+        let mut call = Streaming::new::<H>(n);
+        let key = fresh(16 * n, BLOCK);
+        Found::paint();
+        let started = hash::start::<H>(n, &key, &mut call.state, &call.words);
         call.found.look();
         assert!(started.is_ok());
-        assert_eq!(call.found.of_state(&call.state), 0);
+        assert_eq!(call.found.left(), 0);
+        assert_eq!(call.found.of_state::<H>(&call.state), 0);
     }
 }
 
@@ -305,11 +387,11 @@ fn a_dropped_state_is_cleared() {
         drawn: 20_880,
         finished: 0,
         hash: 0,
-        inner: Chain {
-            shares: [7; CHAIN_WORDS],
+        inner: ChainOf {
+            shares: [7; SHA256_CHAIN_WORDS],
         },
-        outer: Chain {
-            shares: [8; CHAIN_WORDS],
+        outer: ChainOf {
+            shares: [8; SHA256_CHAIN_WORDS],
         },
         tail: [9; 64],
     });
@@ -319,6 +401,6 @@ fn a_dropped_state_is_cleared() {
         let left = place.as_ptr();
         ((*left).inner.shares, (*left).outer.shares, (*left).tail)
     };
-    assert_eq!((inner, outer), ([0; CHAIN_WORDS], [0; CHAIN_WORDS]));
+    assert_eq!([inner, outer], [[0; SHA256_CHAIN_WORDS]; 2]);
     assert_eq!(tail, [0; 64]);
 }

@@ -35,7 +35,9 @@ fn rust_type(c: &str) -> String {
         "flamivorse_answer" => "Answer",
         "flamivorse_opened" => "Opened",
         "flamivorse_chain" => "Chain",
-        "flamivorse_compressed" => "Compressed",
+        "flamivorse_sha256_chain" => "Sha256Chain",
+        "flamivorse_compressed" => "Compressed<Chain>",
+        "flamivorse_sha256_compressed" => "Compressed<Sha256Chain>",
         "flamivorse_state" => "State",
         "flamivorse_streamed" => "Streamed",
         other => panic!("{other}: no such type in the header's interface"),
@@ -86,15 +88,13 @@ fn header_functions() -> Functions {
 }
 
 fn declared_functions() -> Functions {
-    DECLARATIONS
-        .lines()
-        .filter_map(|line| {
-            line.trim()
-                .strip_prefix("pub(crate) fn flamivorse_")?
-                .strip_suffix(';')
-        })
+    let (_, block) = DECLARATIONS.split_once("extern \"C\" {").expect("a block");
+    let words: Vec<&str> = block.split_whitespace().collect();
+    let code = words.join(" ").replace("( ", "(").replace(" )", ")");
+    code.split("; ")
+        .filter_map(|text| text.strip_prefix("pub(crate) fn "))
         .map(|text| text.split_at(text.find('(').expect("parameters")))
-        .map(|(name, rest)| (format!("flamivorse_{name}"), rest.to_string()))
+        .map(|(name, rest)| (name.into(), rest.into()))
         .collect()
 }
 
@@ -136,16 +136,19 @@ fn asserts(name: &str, size: usize, align: usize, fields: &[(&str, usize)]) -> S
 /// same.
 fn layouts() -> String {
     macro_rules! layout {
-        ($c:literal, $rust:ident: $($field:ident),*) => {
-            asserts($c, size_of::<$rust>(), align_of::<$rust>(), &[$((stringify!($field), offset_of!($rust, $field))),*])
-        };
+        ($c:literal, $rust:ty: $($field:ident),*) => {{
+            let fields = [$((stringify!($field), offset_of!($rust, $field))),*];
+            asserts($c, size_of::<$rust>(), align_of::<$rust>(), &fields)
+        }};
     }
     [
         format!("#include \"{HEADER}\"\n"),
         layout!("flamivorse_answer", Answer: number, drawn),
         layout!("flamivorse_opened", Opened: number, word),
         layout!("flamivorse_chain", Chain: shares),
-        layout!("flamivorse_compressed", Compressed: number, drawn, chain),
+        layout!("flamivorse_sha256_chain", Sha256Chain: shares),
+        layout!("flamivorse_compressed", Compressed<Chain>: number, drawn, chain),
+        layout!("flamivorse_sha256_compressed", Compressed<Sha256Chain>: number, drawn, chain),
         layout!("flamivorse_state", State: n, bytes, drawn, finished, hash, inner, outer, tail),
         layout!("flamivorse_streamed", Streamed: number, drawn, state),
     ]

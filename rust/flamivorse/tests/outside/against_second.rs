@@ -3,7 +3,7 @@
 
 use crate::report;
 use flamivorse::{KEY_LIMIT, SHARES_LIMIT};
-use fuzz::calls::{quick_message, refused, Call, Target, CALLS, SOME_COUNTS};
+use fuzz::calls::{quick_message, refused, Call, Target, SOME_COUNTS};
 use fuzz::lent::Arguments;
 use fuzz::random::Random;
 
@@ -64,7 +64,7 @@ pub fn compare_supplies(call: &Call, exact: Arguments, random: &mut Random) -> u
 
 #[test]
 fn calls() {
-    for (seed, call) in CALLS.iter().enumerate() {
+    for (seed, call) in fuzz::calls::calls().enumerate() {
         let mut random = Random::new(seed as u64);
         let mut cases = 0;
         for &n in counts(call) {
@@ -81,7 +81,7 @@ fn calls() {
 #[test]
 fn queries() {
     let mut asked = 0;
-    for call in CALLS.iter().filter(|call| call.query.is_some()) {
+    for call in fuzz::calls::calls().filter(|call| call.query.is_some()) {
         let lengths = call.limit.map_or(vec![0], |limit| {
             (0..=limit + 1).chain([1 << 31, usize::MAX]).collect()
         });

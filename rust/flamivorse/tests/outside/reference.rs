@@ -5,9 +5,10 @@
 use crate::report;
 use flamivorse::{
     a2b, a2b_words, add, add_words, and, and_words, b2a_2_record, b2a_short, b2a_short_words,
-    b2a_words, expand, expand_words, hmac_sha1_start_words, hmac_sha1_words, refresh,
-    refresh_words, sha1_compress_words, split_key, split_words, Drawn, Refusal, B2A_SHORT_COUNTS,
-    MESSAGE_LIMIT, SHARES_LIMIT,
+    b2a_words, expand, expand_words, hmac_sha1_start_words, hmac_sha1_words,
+    hmac_sha256_start_words, hmac_sha256_words, refresh, refresh_words, sha1_compress_words,
+    sha256_compress_words, split_key, split_words, Drawn, Refusal, B2A_SHORT_COUNTS, MESSAGE_LIMIT,
+    SHARES_LIMIT,
 };
 use fuzz::calls::COUNTS;
 
@@ -99,7 +100,7 @@ const B2A: Counts = [
 fn counts() {
     type Query = fn(usize) -> Result<Drawn, Refusal>;
     let pairs: Counts = COUNTS.map(|n| n * (n - 1) / 2);
-    let expected: [(Query, Counts); 9] = [
+    let expected: [(Query, Counts); 11] = [
         (split_words, COUNTS.map(|n| n - 1)),
         (refresh_words, pairs),
         (expand_words, COUNTS),
@@ -109,6 +110,8 @@ fn counts() {
         (b2a_words, B2A),
         (sha1_compress_words, pairs.map(|pairs| 10_440 * pairs)),
         (hmac_sha1_start_words, pairs.map(|pairs| 20_880 * pairs)),
+        (sha256_compress_words, pairs.map(|pairs| 19_328 * pairs)),
+        (hmac_sha256_start_words, pairs.map(|pairs| 38_656 * pairs)),
     ];
     for (query, counts) in expected {
         let told = COUNTS.map(|n| query(n).map(Drawn::words));
@@ -142,9 +145,20 @@ fn counts_of_the_short_conversion() {
 /// At two shares around the end of a block's padding, and at each count what the longest draws.
 #[test]
 fn counts_of_tags() {
-    let tags = [55, 56].map(|length| hmac_sha1_words(2, length).map(Drawn::words));
-    assert_eq!(tags, [41_760, 52_200].map(Ok));
-    let longest = COUNTS.map(|n| hmac_sha1_words(n, MESSAGE_LIMIT).map(Drawn::words));
-    assert_eq!(longest, COUNTS.map(|n| Ok(1_028 * 5_220 * n * (n - 1))));
-    report(2 + COUNTS.len(), "reference values of tags' counts");
+    type Query = fn(usize, usize) -> Result<Drawn, Refusal>;
+    let expected: [(Query, [usize; 2], usize); 2] = [
+        (hmac_sha1_words, [41_760, 52_200], 5_220),
+        (hmac_sha256_words, [77_312, 96_640], 9_664),
+    ];
+    for (query, at_two, compression) in expected {
+        let tags = [55, 56].map(|length| query(2, length).map(Drawn::words));
+        assert_eq!(tags, at_two.map(Ok));
+        let longest = COUNTS.map(|n| query(n, MESSAGE_LIMIT).map(Drawn::words));
+        assert_eq!(
+            longest,
+            COUNTS.map(|n| Ok(1_028 * compression * n * (n - 1)))
+        );
+    }
+    let cases = expected.len() * (2 + COUNTS.len());
+    report(cases, "reference values of tags' counts");
 }

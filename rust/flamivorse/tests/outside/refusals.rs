@@ -5,7 +5,7 @@
 use crate::against_second::counts;
 use crate::report;
 use flamivorse::{KEY_LIMIT, SHARES_LIMIT};
-use fuzz::calls::{refused, Call, Target, CALLS};
+use fuzz::calls::{calls, refused, Call, Target};
 use fuzz::lent::Arguments;
 use fuzz::random::Random;
 
@@ -123,7 +123,7 @@ fn byte_counts(call: &Call, n: usize) -> &'static [usize] {
 
 #[test]
 fn every_fault_and_every_two_faults() {
-    for (seed, call) in CALLS.iter().enumerate() {
+    for (seed, call) in calls().enumerate() {
         let mut random = Random::new(200 + seed as u64);
         let mut cases = 0;
         for &n in counts(call) {
@@ -142,7 +142,7 @@ fn every_fault_and_every_two_faults() {
 fn wrong_share_counts_with_fitting_slices() {
     let mut random = Random::new(300);
     let mut cases = 0;
-    for call in &CALLS {
+    for call in calls() {
         let counts = call.wrong_counts().into_iter();
         for value in counts.filter(|&n| n <= 2 * SHARES_LIMIT) {
             for words in [0, 10_000] {

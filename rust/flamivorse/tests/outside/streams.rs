@@ -1,20 +1,39 @@
 //! Messages that come in pieces: however a message is cut, it has the tag of the one-call form and of
 //! RustCrypto, and the same end state; the state counts the words drawn; a refusal leaves a stream as
-//! it was; pieces fed with words from a supply, and written.
+//! it was; a state of the other hash is refused; pieces fed with words from a supply, and written.
 
-use crate::report;
-use crate::tags::{outside_tag, rfc2202, tag};
+use crate::hashes::{with_each_hash, Tested};
+use crate::tags::tag;
 use flamivorse::{
-    hmac_sha1_feed, hmac_sha1_finish, hmac_sha1_words, sha1_compress_words, split_key_words, Drawn,
-    Failure, Key, Refusal, Source, State, Stream, Supply, CHAIN_WORDS, MESSAGE_LIMIT, TAG_BYTES,
+    Drawn, Failure, Hash, Key, Refusal, Source, State, Stream, Supply, MESSAGE_LIMIT,
+    SHA256_CHAIN_WORDS,
 };
 use fuzz::calls::{quick_message, SOME_COUNTS};
+use fuzz::outside::Vector;
 use fuzz::random::Random;
 use std::cell::Cell;
 use std::io::{self, Write};
 
+with_each_hash!(
+    every_cut_of_the_rfc,
+    cuts_of_random_messages,
+    count_of_words,
+    unused_places,
+    state_of_the_other_hash,
+    after_a_finish,
+    limit_of_all_pieces,
+    fed_by_blocks,
+    written
+);
+
 /// All fields of a state: share count; bytes and words; mark and hash; chains; tail.
-type Fields = (usize, [u64; 2], [u32; 2], [[u32; CHAIN_WORDS]; 2], [u8; 64]);
+type Fields = (
+    usize,
+    [u64; 2],
+    [u32; 2],
+    [[u32; SHA256_CHAIN_WORDS]; 2],
+    [u8; 64],
+);
 
 fn fields(state: &State) -> Fields {
     let chains = [state.inner.shares, state.outer.shares];
@@ -49,29 +68,29 @@ impl Words {
         call(&words).expect("exactly these words")
     }
 
-    fn start(&mut self, key: &Key) -> Stream {
+    fn start<H: Hash>(&mut self, key: &Key<H>) -> Stream<H> {
         self.lent(key.start_words(), |words| key.start(words))
     }
 
-    fn feed(&mut self, stream: &mut Stream, piece: &[u8]) {
+    fn feed<H: Hash>(&mut self, stream: &mut Stream<H>, piece: &[u8]) {
         let count = stream.feed_words(piece.len());
         self.lent(count, |words| stream.feed(piece, words));
     }
 
-    fn finish(&mut self, stream: &mut Stream) -> [u8; TAG_BYTES] {
+    fn finish<H: Hash>(&mut self, stream: &mut Stream<H>) -> H::Tag {
         self.lent(stream.finish_words(), |words| stream.finish(words))
     }
 }
 
 /// A key of n shares.
-fn split(n: usize, key: &[u8]) -> Key {
-    let count = split_key_words(n, key.len());
-    Words::new(500).lent(count, |words| Key::split(n, key, words))
+fn split<H: Hash>(n: usize, key: &[u8]) -> Key<H> {
+    let count = Key::split_for_words::<H>(n, key.len());
+    Words::new(500).lent(count, |words| Key::split_for(n, key, words))
 }
 
 /// The tag of a message in pieces of these lengths, its state before the finish, and how many words
 /// were drawn. The words are always the same.
-fn in_pieces(key: &Key, message: &[u8], lengths: &[usize]) -> ([u8; TAG_BYTES], Fields, usize) {
+fn in_pieces<H: Hash>(key: &Key<H>, message: &[u8], lengths: &[usize]) -> (H::Tag, Fields, usize) {
     let mut words = Words::new(501);
     let mut stream = words.start(key);
     let mut rest = message;
@@ -86,12 +105,13 @@ fn in_pieces(key: &Key, message: &[u8], lengths: &[usize]) -> ([u8; TAG_BYTES], 
 }
 
 /// Compares every one of these cuts with the others, with the one-call form and with RustCrypto.
-pub fn compare(n: usize, key: &[u8], message: &[u8], cuts: &[Vec<usize>]) -> usize {
-    let split = split(n, key);
+pub fn compare<H: Tested>(n: usize, key: &[u8], message: &[u8], cuts: &[Vec<usize>]) -> usize {
+    let split = split::<H>(n, key);
     let whole = in_pieces(&split, message, &[message.len()]);
-    assert_eq!(whole.0, outside_tag(key, message));
-    assert_eq!(tag(n, key, message, &mut Random::new(502)), Ok(whole.0));
-    let count = hmac_sha1_words(n, message.len()).map(Drawn::words);
+    assert_eq!(whole.0, H::outside_tag(key, message));
+    let in_one_call = tag::<H>(n, key, message, &mut Random::new(502));
+    assert_eq!(in_one_call, Ok(whole.0));
+    let count = split.tag_words(message.len()).map(Drawn::words);
     assert_eq!(count, Ok(whole.2));
     for lengths in cuts {
         let again = in_pieces(&split, message, lengths);
@@ -125,24 +145,22 @@ fn random_pieces(length: usize, random: &mut Random) -> Vec<usize> {
 }
 
 /// Every cut; some at more than eight shares, where each draws millions of words.
-#[test]
-fn every_cut_of_rfc_2202() {
+fn every_cut_of_the_rfc<H: Tested>() {
     let mut cases = 0;
     for n in SOME_COUNTS {
-        for (key, message, _) in rfc2202() {
+        for Vector { key, message, .. } in H::calls().hash.vectors() {
             let mut cuts = every_cut(message.len());
             if n > 8 {
                 cuts = cuts.into_iter().step_by(25).collect();
             }
-            cases += compare(n, &key, &message, &cuts);
+            cases += compare::<H>(n, &key, &message, &cuts);
         }
     }
-    report(cases, "cuts of the messages of RFC 2202");
+    H::report(cases, "cuts of the messages of the RFC");
 }
 
 /// At each share count lengths around the edges of blocks and at random.
-#[test]
-fn cuts_of_random_messages() {
+fn cuts_of_random_messages<H: Tested>() {
     let mut random = Random::new(503);
     let mut cases = 0;
     for (n, messages) in SOME_COUNTS.into_iter().zip([40, 30, 8, 8, 4, 2, 0]) {
@@ -158,28 +176,27 @@ fn cuts_of_random_messages() {
                 .map(|piece| equal_pieces(length, piece))
                 .into();
             cuts.extend((0..3).map(|_| random_pieces(length, &mut random)));
-            cases += compare(n, &key, &message, &cuts);
+            cases += compare::<H>(n, &key, &message, &cuts);
         }
     }
-    report(cases, "cuts of random messages");
+    H::report(cases, "cuts of random messages");
 }
 
 /// The state counts so many words: those of the compressions that its bytes have taken.
-fn counts(stream: &Stream, drawn: usize) {
-    let state = stream.state();
-    let compressions = 2 + state.bytes as usize / 64;
-    let counted = sha1_compress_words(state.n).map(|one| compressions * one.words());
-    assert_eq!((state.drawn, counted), (drawn as u64, Ok(drawn)));
+fn counts<H: Tested>(stream: &Stream<H>, drawn: usize) {
+    let (state, hash) = (stream.state(), H::calls().hash);
+    let counted = (2 + state.bytes / 64) * hash.compression_words(state.n);
+    assert_eq!((state.drawn, counted), (drawn as u64, drawn as u64));
+    assert_eq!(state.hash, hash.code());
 }
 
 /// Over a run of calls the state counts what the start and the accepted feeds drew. A refused call
 /// adds nothing, and neither does a finish. At one share there is nothing to count.
-#[test]
-fn count_of_words() {
+fn count_of_words<H: Tested>() {
     let lengths = [0, 1, 62, 1, 0, 64, 63, 65, 129];
     for n in SOME_COUNTS {
         let mut words = Words::new(514);
-        let mut stream = words.start(&split(n, b"key"));
+        let mut stream = words.start(&split::<H>(n, b"key"));
         counts(&stream, words.drawn);
         for length in lengths {
             words.feed(&mut stream, &vec![7; length]);
@@ -196,57 +213,75 @@ fn count_of_words() {
         assert_eq!(drawn == 0, n == 1);
     }
     let calls = SOME_COUNTS.len() * (3 + 2 * lengths.len());
-    report(calls, "calls after which the state counts its words");
+    H::report(calls, "calls after which the state counts its words");
 }
 
 /// What is not used of a state has no say. An accepted feed makes it 0, of an empty piece too; a
 /// finish keeps it.
-#[test]
-fn unused_places() {
+fn unused_places<H: Tested>() {
     let mut random = Random::new(504);
     for n in SOME_COUNTS {
+        let used = H::calls().hash.words() * n;
         let mut words = Words::new(505);
-        let mut stream = words.start(&split(n, b"key"));
+        let mut stream = words.start(&split::<H>(n, b"key"));
         words.feed(&mut stream, &random.bytes(100));
         let mut junk = stream.state().clone();
-        junk.inner.shares[5 * n..].fill_with(|| random.word());
-        junk.outer.shares[5 * n..].fill_with(|| random.word());
+        junk.inner.shares[used..].fill_with(|| random.word());
+        junk.outer.shares[used..].fill_with(|| random.word());
         junk.tail[36..].fill_with(|| random.word() as u8);
         let before = fields(&junk);
 
         let mut cleared = junk.clone();
-        assert_eq!(
-            hmac_sha1_feed(&mut cleared, &[], &[]).map(Drawn::words),
-            Ok(0)
-        );
+        let empty = H::FEED(&mut cleared, &[], &[]);
+        assert_eq!(empty.map(Drawn::words), Ok(0));
         assert!(fields(&cleared) == fields(stream.state()));
 
-        let (mut tag, mut other) = ([0; TAG_BYTES], [0; TAG_BYTES]);
+        let [mut tag, mut other] = [H::Tag::default(); 2];
         let lent = random.words(stream.finish_words().expect("a fit state").words());
-        hmac_sha1_finish(&mut junk, &mut tag, &lent).expect("exactly these words");
-        hmac_sha1_finish(&mut cleared, &mut other, &lent).expect("exactly these words");
+        H::FINISH(&mut junk, tag.as_mut(), &lent).expect("exactly these words");
+        H::FINISH(&mut cleared, other.as_mut(), &lent).expect("exactly these words");
         assert_eq!(tag, other);
         assert_eq!(junk.finished, 1);
         junk.finished = 0;
         assert!(fields(&junk) == before);
     }
-    report(
+    H::report(
         SOME_COUNTS.len() * 2,
         "states with something in their unused places",
     );
 }
 
+/// A state that is fit for one hash is refused by the calls of the other, and neither it nor the tag
+/// changes.
+fn state_of_the_other_hash<H: Tested>() {
+    let lent = vec![7; 100_000];
+    for n in [1, 2, 3] {
+        let mut words = Words::new(515);
+        let mut stream = words.start(&split::<H::Other>(n, b"key"));
+        words.feed(&mut stream, &[7; 70]);
+        let (mut state, mut tag) = (stream.state().clone(), H::Tag::default());
+        for piece in [&[][..], &[7; 64]] {
+            let fed = H::FEED(&mut state, piece, &lent);
+            assert_eq!(fed, Err(Refusal::StateUnfit));
+        }
+        let finished = H::FINISH(&mut state, tag.as_mut(), &lent);
+        assert_eq!(finished, Err(Refusal::StateUnfit));
+        assert!(fields(&state) == fields(stream.state()));
+        assert_eq!(tag, H::Tag::default());
+    }
+    H::report(3 * 3, "calls on a state of the other hash");
+}
+
 /// After a finish every call is refused, and the state stays. A copy from before can be finished
 /// again, with other words, and fed further.
-#[test]
-fn after_a_finish() {
+fn after_a_finish<H: Tested>() {
     let message = [7; 70];
     for n in SOME_COUNTS {
         let mut words = Words::new(506);
-        let mut stream = words.start(&split(n, b"key"));
+        let mut stream = words.start(&split::<H>(n, b"key"));
         words.feed(&mut stream, &message);
         let mut before = stream.clone();
-        assert_eq!(words.finish(&mut stream), outside_tag(b"key", &message));
+        assert_eq!(words.finish(&mut stream), H::outside_tag(b"key", &message));
 
         let end = fields(stream.state());
         let refused = Some(Refusal::StateUnfit);
@@ -259,12 +294,12 @@ fn after_a_finish() {
         assert!(fields(stream.state()) == end);
 
         let again = words.finish(&mut before.clone());
-        assert_eq!(again, outside_tag(b"key", &message));
+        assert_eq!(again, H::outside_tag(b"key", &message));
         words.feed(&mut before, &message);
         let further = words.finish(&mut before);
-        assert_eq!(further, outside_tag(b"key", &[7; 140]));
+        assert_eq!(further, H::outside_tag(b"key", &[7; 140]));
     }
-    report(SOME_COUNTS.len() * 9, "calls after a finish");
+    H::report(SOME_COUNTS.len() * 9, "calls after a finish");
 }
 
 /// The share counts at which the longest message is streamed. At more it takes seconds.
@@ -272,13 +307,12 @@ const LONG_COUNTS: [usize; 4] = [1, 2, 3, 4];
 
 /// The limit counts all pieces, each of which is lent its own words. What would pass it is refused
 /// whole, and what fits is taken after it.
-#[test]
-fn limit_of_all_pieces() {
+fn limit_of_all_pieces<H: Tested>() {
     let message = Random::new(507).bytes(MESSAGE_LIMIT);
     let (most, rest) = message.split_at(MESSAGE_LIMIT - 96);
     for n in LONG_COUNTS {
         let mut words = Words::new(508);
-        let mut stream = words.start(&split(n, b"key"));
+        let mut stream = words.start(&split::<H>(n, b"key"));
         let long = stream.feed(&[0; MESSAGE_LIMIT + 1], &[]);
         assert_eq!(long, Err(Refusal::TooLong));
         for piece in most.chunks(1000) {
@@ -293,9 +327,9 @@ fn limit_of_all_pieces() {
         assert_eq!(stream.feed(&[0], &[]), Err(Refusal::TooLong));
         words.feed(&mut stream, &[]);
         let tag = words.finish(&mut stream);
-        assert_eq!(tag, outside_tag(b"key", &message));
+        assert_eq!(tag, H::outside_tag(b"key", &message));
     }
-    report(LONG_COUNTS.len() * 8, "pieces at the limit");
+    H::report(LONG_COUNTS.len() * 8, "pieces at the limit");
 }
 
 /// A supply of seeded words that ends after so many of them, and tells how many were asked for at
@@ -313,9 +347,9 @@ fn ending(mut left: usize, most: &Cell<usize>) -> Supply<impl Source<Error = io:
 }
 
 /// A stream at n shares that has so many bytes already.
-fn begun(n: usize, bytes: &[u8]) -> Stream {
+fn begun<H: Hash>(n: usize, bytes: &[u8]) -> Stream<H> {
     let mut words = Words::new(510);
-    let mut stream = words.start(&split(n, b"key"));
+    let mut stream = words.start(&split::<H>(n, b"key"));
     words.feed(&mut stream, bytes);
     stream
 }
@@ -326,35 +360,34 @@ const PIECES: [(usize, usize); 7] = [(0, 0), (0, 63), (0, 64), (1, 63), (1, 200)
 
 /// A supply lends the words of one block at a time, and all together they are those of one feed. One
 /// that ends before leaves the stream as it was.
-#[test]
-fn fed_by_blocks() {
+fn fed_by_blocks<H: Tested>() {
     let message = Random::new(511).bytes(300);
     for n in SOME_COUNTS {
         for (first, length) in PIECES {
             let (before, piece) = (&message[..first], &message[first..first + length]);
-            let (mut stream, most) = (begun(n, before), Cell::new(0));
+            let (mut stream, most) = (begun::<H>(n, before), Cell::new(0));
             let need = stream.feed_words(length).expect("a fit state");
             if need.words() > 0 {
                 let failed = stream.feed_by_blocks(piece, &mut ending(need.words() - 1, &most));
                 assert!(matches!(failed, Err(Failure::Source(_))));
-                assert!(fields(stream.state()) == fields(begun(n, before).state()));
+                assert!(fields(stream.state()) == fields(begun::<H>(n, before).state()));
             }
             let drawn = stream.feed_by_blocks(piece, &mut ending(need.words(), &most));
             assert!(matches!(drawn, Ok(drawn) if drawn == need));
-            assert!(most.get() <= sha1_compress_words(n).map_or(0, Drawn::words));
+            assert!(most.get() as u64 <= H::calls().hash.compression_words(n));
 
-            let (mut whole, words) = (begun(n, before), Random::new(509).words(need.words()));
+            let mut whole = begun::<H>(n, before);
+            let words = Random::new(509).words(need.words());
             whole.feed(piece, &words).expect("exactly these words");
             assert!(fields(stream.state()) == fields(whole.state()));
         }
     }
-    report(SOME_COUNTS.len() * PIECES.len(), "pieces fed by blocks");
+    H::report(SOME_COUNTS.len() * PIECES.len(), "pieces fed by blocks");
 }
 
 /// What is copied to a stream is fed. A refusal and a failed source are errors of their own kind, no
 /// word is lent for a refusal, and nothing of such a write is taken.
-#[test]
-fn written() {
+fn written<H: Tested>() {
     let mut cases = 0;
     for n in SOME_COUNTS {
         let longest = match LONG_COUNTS.contains(&n) {
@@ -363,7 +396,7 @@ fn written() {
         };
         for length in [0, 1, 64, 65, longest] {
             let (message, most) = (Random::new(512).bytes(length), Cell::new(0));
-            let (mut stream, mut supply) = (begun(n, &[]), ending(usize::MAX, &most));
+            let (mut stream, mut supply) = (begun::<H>(n, &[]), ending(usize::MAX, &most));
             let copied = io::copy(&mut &message[..], &mut stream.writer(&mut supply));
             assert_eq!(copied.expect("within the limits"), length as u64);
 
@@ -377,9 +410,9 @@ fn written() {
                 assert_eq!(failed.unwrap_err().kind(), io::ErrorKind::UnexpectedEof);
             }
             let tag = Words::new(513).finish(&mut stream);
-            assert_eq!(tag, outside_tag(b"key", &message));
+            assert_eq!(tag, H::outside_tag(b"key", &message));
             cases += 1;
         }
     }
-    report(cases, "messages written");
+    H::report(cases, "messages written");
 }

@@ -1,26 +1,19 @@
 //! However a message is cut, its end state is the same for the same words, and its tag is that of the
 //! one-call form and of RustCrypto.
 
-use crate::{report, FEED, FINISH, START, TARGETS};
+use crate::{report, TARGETS};
 use flamivorse::MESSAGE_LIMIT;
-use fuzz::calls::{named, quick_message, Call, Target, SOME_COUNTS};
+use fuzz::calls::{quick_message, Call, Hashed, Target, SOME_COUNTS};
 use fuzz::lent::{Arguments, Lengths};
+use fuzz::outside::Vector;
 use fuzz::random::Random;
-use hmac::{Hmac, Mac};
-use sha1::Sha1;
 
-const RFC_2202: &str = include_str!("../../../../crates/rfc2202/data/cases.txt");
-
-/// The tag by RustCrypto.
-fn outside_tag(key: &[u8], message: &[u8]) -> Vec<u8> {
-    let mut hmac = Hmac::<Sha1>::new_from_slice(key).expect("HMAC takes any key");
-    hmac.update(message);
-    hmac.finalize().into_bytes().to_vec()
-}
+with_each_hash!(cuts_of_the_rfc, cuts_of_random_messages, longest_message);
 
 /// A message on its way: all that its calls are lent, the state among it, and the words to come.
 #[derive(Clone)]
 struct Run {
+    calls: &'static Hashed,
     target: Target,
     lent: Arguments,
     words: Random,
@@ -29,19 +22,20 @@ struct Run {
 
 impl Run {
     /// Before the start, under this key.
-    fn new(target: Target, n: usize, key: &[u8]) -> Run {
-        let (split_key, mut random) = (named("split_key"), Random::new(600));
+    fn new(calls: &'static Hashed, target: Target, n: usize, key: &[u8]) -> Run {
+        let (split_key, mut random) = (&calls.split_key, Random::new(600));
         let mut lent = Arguments::random(n, split_key.lengths(n, key.len()), &mut random);
         lent.bytes.hold(key);
         let (outcome, split) = split_key.compare(target, &lent);
         assert_eq!(outcome.number, 0);
         let lengths = Lengths {
-            tag: FINISH.tag,
-            ..START.lengths(n, 0)
+            tag: calls.finish.tag,
+            ..calls.start.lengths(n, 0)
         };
         let mut lent = Arguments::random(n, lengths, &mut random);
         lent.inputs[0].hold(split.output.slice());
         Run {
+            calls,
             target,
             lent,
             words: random,
@@ -70,7 +64,7 @@ impl Run {
         let mut rest = message;
         for &length in lengths {
             let (piece, after) = rest.split_at(length);
-            self.make(FEED, piece);
+            self.make(&self.calls.feed, piece);
             assert_eq!(self.lent.state.drawn, self.drawn);
             rest = after;
         }
@@ -86,45 +80,31 @@ impl Run {
 }
 
 /// Compares every one of these cuts with the first, with the one-call form and with RustCrypto.
-fn compare_cuts(n: usize, key: &[u8], message: &[u8], cuts: &[Vec<usize>]) -> usize {
-    let tag = outside_tag(key, message);
+fn compare_cuts(
+    calls: &'static Hashed,
+    n: usize,
+    (key, message): (&[u8], &[u8]),
+    cuts: &[Vec<usize>],
+) -> usize {
+    let tag = calls.hash.outside_tag(key, message);
     for target in TARGETS {
-        let mut started = Run::new(target, n, key);
+        let mut started = Run::new(calls, target, n, key);
         let mut whole = started.clone();
-        whole.make(named("hmac_sha1"), message);
+        whole.make(&calls.hmac, message);
         assert_eq!(whole.lent.tag.slice(), tag);
-        started.make(START, &[]);
+        started.make(&calls.start, &[]);
         let mut first: Option<Run> = None;
         for lengths in cuts {
             let mut run = started.clone();
             run.feed(message, lengths);
             let same = run.ends_as(first.get_or_insert(run.clone()));
             assert!(same, "{lengths:?} at n = {n}");
-            run.make(FINISH, &[]);
+            run.make(&calls.finish, &[]);
             assert_eq!(run.lent.tag.slice(), tag, "{lengths:?} at n = {n}");
             assert_eq!(run.drawn, whole.drawn);
         }
     }
     TARGETS.len() * cuts.len()
-}
-
-/// The bytes that a text of hexadecimal digits stands for.
-fn bytes_of(digits: &str) -> Vec<u8> {
-    let pairs = (0..digits.len()).step_by(2);
-    let byte = |at| u8::from_str_radix(&digits[at..at + 2], 16).expect("two digits");
-    pairs.map(byte).collect()
-}
-
-/// The cases of RFC 2202: key, message, tag.
-fn rfc2202() -> [[Vec<u8>; 3]; 7] {
-    let lines = RFC_2202.lines().filter(|line| !line.starts_with('#'));
-    let lines = lines.filter(|line| !line.is_empty());
-    let fields = |line: &str| {
-        let fields: Vec<_> = line.split(' ').skip(1).map(bytes_of).collect();
-        fields.try_into().expect("three fields after the number")
-    };
-    let cases: Vec<_> = lines.map(fields).collect();
-    cases.try_into().expect("seven cases")
 }
 
 /// Every cut in two, empty pieces among them, and single bytes.
@@ -156,12 +136,12 @@ fn some_cuts(length: usize, random: &mut Random) -> [Vec<usize>; 4] {
 
 /// Every cut at up to four shares; some at more, where each draws many words, and where the key is
 /// hashed, since the calls of a message know nothing of that.
-#[test]
-fn cuts_of_rfc_2202() {
+fn cuts_of_the_rfc(calls: &'static Hashed) {
     let mut random = Random::new(604);
     let mut cases = 0;
-    for [key, message, tag] in rfc2202() {
-        assert_eq!(outside_tag(&key, &message), tag);
+    for Vector { key, message, tag } in calls.hash.vectors() {
+        let outside = calls.hash.outside_tag(&key, &message);
+        assert!(outside.starts_with(&tag));
         let (every, some) = (
             every_cut(message.len()),
             some_cuts(message.len(), &mut random),
@@ -172,16 +152,19 @@ fn cuts_of_rfc_2202() {
                 (..=8, _) => &some[..],
                 _ => &some[..2],
             };
-            cases += compare_cuts(n, &key, &message, cuts);
+            cases += compare_cuts(calls, n, (&key, &message), cuts);
         }
     }
-    report(cases, "cuts of RFC 2202 by Rust and C, against second");
+    report(
+        calls.hash,
+        cases,
+        "cuts of the RFC's messages by Rust and C, against second",
+    );
 }
 
 /// At each share count lengths around the ends of blocks and of their padding, then any, and the
 /// longest that is quick; fewer of them, and fewer cuts, where they draw more words.
-#[test]
-fn cuts_of_random_messages() {
+fn cuts_of_random_messages(calls: &'static Hashed) {
     let mut random = Random::new(601);
     let mut cases = 0;
     let tried = [(2, 4), (1, 4), (0, 2), (1, 3), (0, 2), (0, 2), (0, 1)];
@@ -192,30 +175,32 @@ fn cuts_of_random_messages() {
             let key = random.key_length();
             let (key, message) = (random.bytes(key), random.bytes(length));
             let lengths = some_cuts(length, &mut random);
-            cases += compare_cuts(n, &key, &message, &lengths[..cuts]);
+            cases += compare_cuts(calls, n, (&key, &message), &lengths[..cuts]);
         }
     }
     report(
+        calls.hash,
         cases,
         "cuts of random messages by Rust and C, against second",
     );
 }
 
 /// The longest message in pieces around a block, with words made for each of them.
-#[test]
-fn longest_message() {
+fn longest_message(calls: &'static Hashed) {
     let counts = [1, 2, 3];
     let mut random = Random::new(605);
     let message = random.bytes(MESSAGE_LIMIT);
+    let tag = calls.hash.outside_tag(b"key", &message);
     let lengths = pieces(MESSAGE_LIMIT, |_| 62 + random.below(5));
     for (n, target) in counts.into_iter().zip([Target::Rust, Target::C, Target::C]) {
-        let mut run = Run::new(target, n, b"key");
-        run.make(START, &[]);
+        let mut run = Run::new(calls, target, n, b"key");
+        run.make(&calls.start, &[]);
         run.feed(&message, &lengths);
-        run.make(FINISH, &[]);
-        assert_eq!(run.lent.tag.slice(), outside_tag(b"key", &message));
+        run.make(&calls.finish, &[]);
+        assert_eq!(run.lent.tag.slice(), tag);
     }
     report(
+        calls.hash,
         counts.len(),
         "longest messages by Rust and C, against second",
     );

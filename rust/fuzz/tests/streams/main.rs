@@ -4,18 +4,34 @@
 //! All random values are seeded, so that every run has the same cases. Each test prints how many it
 //! ran, as `cases: N, what`.
 
+/// Makes tests of functions that take a hash with its calls: each with either.
+macro_rules! with_each_hash {
+    ($($test:ident),*) => {
+        mod sha1 {$(
+            #[test]
+            fn $test() {
+                super::$test(&fuzz::calls::HASHED[0]);
+            }
+        )*}
+
+        mod sha256 {$(
+            #[test]
+            fn $test() {
+                super::$test(&fuzz::calls::HASHED[1]);
+            }
+        )*}
+    };
+}
+
 mod cuts;
 mod states;
 
-use fuzz::calls::{Call, Target, STREAM_CALLS};
+use fuzz::calls::Target;
+use fuzz::hashes::Hash;
 
 const TARGETS: [Target; 2] = [Target::Rust, Target::C];
 
-static START: &Call = &STREAM_CALLS[0];
-static FEED: &Call = &STREAM_CALLS[1];
-static FINISH: &Call = &STREAM_CALLS[2];
-
-/// Says how many cases a test ran.
-fn report(cases: usize, what: &str) {
-    println!("cases: {cases}, {what}");
+/// Says how many cases a test ran with a hash.
+fn report(hash: Hash, cases: usize, what: &str) {
+    println!("cases: {cases}, {hash:?}: {what}");
 }

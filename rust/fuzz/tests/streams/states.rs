@@ -1,29 +1,36 @@
 //! States of any kind: what is not read of them has no say, and is 0 after a start or a feed; a
 //! refusal and a finish hand them back as they came; which fault is told first; the queries.
 
-use crate::{report, FEED, FINISH, START, TARGETS};
+use crate::{report, TARGETS};
 use flamivorse::MESSAGE_LIMIT;
-use fuzz::calls::{
-    refused, Call, Outcome, Target, COUNTS, SOME_COUNTS, STREAM_CALLS, WRONG_COUNTS,
-};
-use fuzz::lent::{compression_words, Arguments, Outline};
+use fuzz::calls::{refused, Call, Hashed, Outcome, Target, COUNTS, SOME_COUNTS, WRONG_COUNTS};
+use fuzz::hashes::Hash;
+use fuzz::lent::{Arguments, Outline};
 use fuzz::random::Random;
+
+with_each_hash!(
+    unread_places_have_no_say,
+    every_combination_of_faults,
+    queries
+);
 
 /// The most bytes that a state can have.
 const LIMIT: u64 = MESSAGE_LIMIT as u64;
 
-/// Where the places of a state begin that are not read: in its chains, and in its tail.
-fn unread(state: Outline) -> (usize, usize) {
-    let right = state == Outline::of(state.n, state.fed);
-    match right && COUNTS.contains(&state.n) && state.fed <= LIMIT {
-        true => (5 * state.n, state.fed as usize % 64),
-        false => (0, 0),
+/// Where the places of a state begin that a call does not read: in its chains, and in its tail.
+fn unread(call: &Call, state: Outline) -> (usize, usize) {
+    let fits = |hash: &Hash| state == Outline::of(*hash, state.n, state.fed);
+    match call.hash.filter(fits) {
+        Some(hash) if COUNTS.contains(&state.n) && state.fed <= LIMIT => {
+            (hash.words() * state.n, state.fed as usize % 64)
+        }
+        _ => (0, 0),
     }
 }
 
 /// Whether these places are 0.
-fn is_cleared(state: &Arguments) -> bool {
-    let (words, bytes) = unread(state.state);
+fn is_cleared(call: &Call, state: &Arguments) -> bool {
+    let (words, bytes) = unread(call, state.state);
     let mut chains = [&state.chain, &state.outer].into_iter();
     chains.all(|chain| chain.slice()[words..].iter().all(|&word| word == 0))
         && state.tail.slice()[bytes..].iter().all(|&byte| byte == 0)
@@ -43,7 +50,7 @@ fn is_kept(given: &Arguments, outcome: Outcome, after: &Arguments) -> bool {
 /// Makes a call twice, the second time with other contents in the places that are not read: both
 /// answers are the same, but for the state that a refusal and a finish hand back as it came.
 fn compare_unread(call: &Call, target: Target, given: &Arguments, random: &mut Random) -> Outcome {
-    let (words, bytes) = unread(given.state);
+    let (words, bytes) = unread(call, given.state);
     let mut other = given.clone();
     for chain in [&mut other.chain, &mut other.outer] {
         chain.slice_mut()[words..].fill_with(|| random.word());
@@ -56,7 +63,7 @@ fn compare_unread(call: &Call, target: Target, given: &Arguments, random: &mut R
         assert!(is_kept(given, outcome, &after) && is_kept(&other, outcome, &other_after));
         assert!(after.tag == other_after.tag);
     } else {
-        assert!(is_cleared(&after) && after == other_after);
+        assert!(is_cleared(call, &after) && after == other_after);
     }
     outcome
 }
@@ -92,45 +99,51 @@ const FIT: [(u64, usize); 7] = [
     (LIMIT, 0),
 ];
 
-#[test]
-fn unread_places_have_no_say() {
+fn unread_places_have_no_say(calls: &Hashed) {
     let mut random = Random::new(602);
     let mut cases = 0;
     for n in SOME_COUNTS {
         for (fed, piece) in FIT {
-            let state = Outline::of(n, fed);
-            for call in &STREAM_CALLS {
+            let state = Outline::of(calls.hash, n, fed);
+            for call in calls.stream_calls() {
                 cases += compare_supplies(call, state, piece, &mut random);
             }
         }
     }
-    report(cases, "states with anything in the places not read");
+    report(
+        calls.hash,
+        cases,
+        "states with anything in the places not read",
+    );
 }
 
 /// The same state with counts of words that are not its own: a word or a compression off, with those
-/// of a finish, of two shares or three, right but for the upper half, and at the end of 64 bits.
-fn miscounted(fit: Outline) -> impl Iterator<Item = Outline> {
-    let (right, compression) = (fit.drawn, compression_words(fit.n));
+/// of a finish, of two shares or three, of the other hash, right but for the upper half, and at the
+/// end of 64 bits.
+fn miscounted(hash: Hash, fit: Outline) -> impl Iterator<Item = Outline> {
+    let (right, compression) = (fit.drawn, hash.compression_words(fit.n));
     let off = [1, compression].map(|words| [right.wrapping_sub(words), right + words]);
     let finished = [2, 3].map(|compressions| right + compressions * compression);
-    let others = [2, 3].map(|n| Outline::of(n, fit.fed).drawn);
+    let others = [(hash, 2), (hash, 3), (hash.other(), fit.n)];
+    let others = others.map(|(hash, n)| Outline::of(hash, n, fit.fed).drawn);
     let wide = [right + (1 << 32), right + (1 << 63), u64::MAX];
     let all = [off.as_flattened(), &finished, &others, &wide].concat();
     let states = all.into_iter().map(move |drawn| Outline { drawn, ..fit });
     states.filter(move |state| *state != fit)
 }
 
-/// States of n shares: a fit one, and unfit ones by their share count, their bytes, their mark, their
-/// hash and their count of words.
-fn states(n: usize) -> Vec<Outline> {
-    let fit = Outline::of(n, 70);
-    let counts = WRONG_COUNTS.map(|n| Outline::of(n, 70));
-    let bytes = [LIMIT + 1, 70 + (1 << 32), u64::MAX].map(|fed| Outline::of(n, fed));
-    let codes = [1, 2, 1 << 31, u32::MAX];
-    let marks = codes.map(|finished| Outline { finished, ..fit });
+/// States of n shares: one that is fit for a hash, and unfit ones by their share count, their bytes,
+/// their mark, their hash and their count of words; and one that is fit for the other hash.
+fn states(hash: Hash, n: usize) -> Vec<Outline> {
+    let fit = Outline::of(hash, n, 70);
+    let counts = WRONG_COUNTS.map(|n| Outline::of(hash, n, 70));
+    let bytes = [LIMIT + 1, 70 + (1 << 32), u64::MAX].map(|fed| Outline::of(hash, n, fed));
+    let marks = [1, 2, 1 << 31, u32::MAX].map(|finished| Outline { finished, ..fit });
+    let codes = [hash.other().code(), 2, 1 << 31, u32::MAX];
     let hashes = codes.map(|hash| Outline { hash, ..fit });
+    let other = Outline::of(hash.other(), n, 70);
     let others = counts.into_iter().chain(bytes).chain(marks).chain(hashes);
-    let unfit = others.chain(miscounted(fit));
+    let unfit = others.chain(miscounted(hash, fit)).chain([other]);
     [fit].into_iter().chain(unfit).collect()
 }
 
@@ -171,19 +184,22 @@ fn compare_faults(
     TARGETS.len() * states.len()
 }
 
-#[test]
-fn every_combination_of_faults() {
+fn every_combination_of_faults(calls: &Hashed) {
     let mut random = Random::new(603);
     let mut cases = 0;
-    for states in SOME_COUNTS.map(states) {
-        for call in [FEED, FINISH] {
+    for states in SOME_COUNTS.map(|n| states(calls.hash, n)) {
+        for call in [&calls.feed, &calls.finish] {
             for faults in 0..4 {
                 let (wrong, short) = (faults & 1 > 0, faults & 2 > 0);
                 cases += compare_faults(call, &states, wrong, short, &mut random);
             }
         }
     }
-    report(cases, "feeds and finishes with every combination of faults");
+    report(
+        calls.hash,
+        cases,
+        "feeds and finishes with every combination of faults",
+    );
 }
 
 /// Numbers of bytes from 0 on, around the limit, and at the ends of 32 and 64 bits.
@@ -194,41 +210,45 @@ fn lengths() -> impl Iterator<Item = u64> {
 }
 
 /// Asks each call on a state how many words it draws, for pieces of many lengths.
-fn compare_queries(target: Target, state: Outline) -> usize {
-    START.compare_query(target, state, 0);
-    FINISH.compare_query(target, state, 0);
+fn compare_queries(calls: &Hashed, target: Target, state: Outline) -> usize {
+    calls.start.compare_query(target, state, 0);
+    calls.finish.compare_query(target, state, 0);
     let pieces = lengths().step_by(5);
-    let fed = pieces.map(|piece| FEED.compare_query(target, state, piece as usize));
+    let fed = pieces.map(|piece| calls.feed.compare_query(target, state, piece as usize));
     2 + fed.count()
 }
 
 /// A state with its own count of words, and with one that is a word or a compression more; finished;
-/// of another hash.
-fn kinds(state: Outline) -> [Outline; 5] {
+/// called another hash's, and of the other hash.
+fn kinds(hash: Hash, n: usize, fed: u64) -> [Outline; 6] {
+    let state = Outline::of(hash, n, fed);
     let more = |words| Outline {
         drawn: state.drawn.wrapping_add(words),
         ..state
     };
-    let (finished, hash) = (1, 1);
+    let (finished, code) = (1, hash.other().code());
     [
         state,
         more(1),
-        more(compression_words(state.n)),
+        more(hash.compression_words(n)),
         Outline { finished, ..state },
-        Outline { hash, ..state },
+        Outline {
+            hash: code,
+            ..state
+        },
+        Outline::of(hash.other(), n, fed),
     ]
 }
 
-#[test]
-fn queries() {
-    let mut asked = 0;
+fn queries(calls: &Hashed) {
+    let (mut asked, hash) = (0, calls.hash);
     for n in COUNTS.into_iter().chain(WRONG_COUNTS) {
-        for state in lengths().flat_map(|fed| kinds(Outline::of(n, fed))) {
+        for state in lengths().flat_map(|fed| kinds(hash, n, fed)) {
             asked += TARGETS
-                .map(|target| compare_queries(target, state))
+                .map(|target| compare_queries(calls, target, state))
                 .iter()
                 .sum::<usize>();
         }
     }
-    println!("queries: {asked}, on states, against second");
+    println!("queries: {asked}, {hash:?}: on states, against second");
 }
