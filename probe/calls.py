@@ -201,7 +201,6 @@ def copying(sha):
         hmac(sha, 4, quick=40, deep=100),
         hmac(sha, 2, quick=100, deep=400),
         compress(sha, 4, quick=100, deep=500),
-        compress(sha, 3, quick=100, deep=500),
         compress(sha, 2, quick=200, deep=2000),
         long_key(sha, 4, quick=40, deep=250),
         long_key(sha, 2, quick=100, deep=1000),
@@ -215,9 +214,10 @@ def hashing(sha, n):
 
 
 # The calls that copy whole chains: with a copy of many bytes at a time these very calls must be flagged (controls.py).
-COPYING = [one for sha in HASHES for one in copying(sha)]
+COPYING = [*(one for sha in HASHES for one in copying(sha)), compress(SHA1, 3, quick=100, deep=500)]
 SHORT = [one for n in (8, 5, 4, 3, 2) for one in short(n)]
-LONG = [compress(sha, n, quick=40, deep=200) for sha in HASHES for n in (8, 5)]
+# At other counts SHA-256 goes by the additions and ANDs that SHA-1 shows.
+LONG = [compress(SHA1, n, quick=40, deep=200) for n in (8, 5)]
 CALLS = [*COPYING, *LONG, *SHORT, *two_share_forms()]
 
 # Every call by share count, made once each to see what it leaves behind: nothing, once it is cleared.
