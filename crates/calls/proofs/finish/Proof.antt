@@ -6,10 +6,10 @@ use Rattle.calls.proofs.finish.Tie as tie
 
 finish-at-requires : tie.Need-finish-at-requires
 finish-at-requires c κs =
-    let a = c .before .before .before .before .before .before .args in
+    let asked = c .before .before .before in
+    let a = asked .before .before .before .args in
     finish-ready (a .code) _ _ (a .state .drawn) (a .state .finished) (a .state .hash) _ _ _ _
-    (c .before .before .before .finish-words .ensures)
-    (c .before .before .finishing .ensures) (c .before .if1 .left)
+    (asked .finish-words .ensures) (c .before .before .finishing .ensures) (c .before .if1 .left)
 
 pub finish-spec : {M : Type 1} → statement M
 finish-spec =
