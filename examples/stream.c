@@ -1,7 +1,7 @@
 /* Tags a log piece by piece with HMAC-SHA-1 under a key in two shares: a whole program over libflamivorse.a, with
  * fixed buffers.
  *
- *   cc -o stream -I include examples/stream.c target/lib/libflamivorse.a
+ *   cc -o stream examples/stream.c $(pkg-config --cflags --libs flamivorse)    # after make install
  *   ./stream examples/box.key examples/trial.log
  *
  * The key is the bytes of its file, at most 64: a longer one is hashed when it is split, which draws the words of up
@@ -21,10 +21,10 @@
 #include <stdio.h>
 #include <stdlib.h>
 
-enum { SHARES = 2, KEY_WORDS = 16 * SHARES, KEY_LIMIT = 64, TAG_BYTES = 20 };
+enum { SHARES = 2, KEY_WORDS = FLAMIVORSE_KEY_BLOCK_WORDS * SHARES, KEY_LIMIT = FLAMIVORSE_BLOCK_BYTES };
 
-/* A piece of 64 bytes completes at most one block. No call draws more than a finish: three compressions. */
-enum { PIECE = 64, COMPRESSION = 10440, MOST_WORDS = 3 * COMPRESSION };
+/* A piece of a block's length completes at most one block. No call draws more than a finish: three compressions. */
+enum { PIECE = FLAMIVORSE_BLOCK_BYTES, COMPRESSION = 10440, MOST_WORDS = 3 * COMPRESSION };
 
 static uint32_t words[MOST_WORDS];
 static flamivorse_state state;
@@ -39,7 +39,7 @@ static void stop(const char *what, const char *why)
 /* Ends the program where a call was refused. */
 static void accepted(const char *what, uint32_t number)
 {
-    if (number == 0)
+    if (number == FLAMIVORSE_DONE)
         return;
     fprintf(stderr, "stream: %s: refused, number %u (see flamivorse.h)\n", what, (unsigned)number);
     exit(2);
@@ -116,7 +116,7 @@ __attribute__((noinline)) static void feed(const char *name, const uint8_t *piec
 __attribute__((noinline)) static void finish(const char *name, uint8_t *tag)
 {
     size_t count = fresh_words(name, flamivorse_hmac_sha1_finish_words(state));
-    flamivorse_streamed done = flamivorse_hmac_sha1_finish(state, tag, TAG_BYTES, words, count);
+    flamivorse_streamed done = flamivorse_hmac_sha1_finish(state, tag, FLAMIVORSE_TAG_BYTES, words, count);
     accepted(name, done.number);
     keep(&done.state);
 }
@@ -138,7 +138,7 @@ static void split_key(const char *name, uint32_t *shares)
 int main(int argc, char **argv)
 {
     static uint32_t shares[KEY_WORDS];
-    static uint8_t piece[PIECE], tag[TAG_BYTES];
+    static uint8_t piece[PIECE], tag[FLAMIVORSE_TAG_BYTES];
     if (argc != 3)
         stop("usage", "stream KEY LOG");
     const char *key_name = argv[1], *log_name = argv[2];
@@ -160,7 +160,7 @@ int main(int argc, char **argv)
     clear(&state, sizeof state);
     clear(words, sizeof words);
 
-    for (size_t i = 0; i < TAG_BYTES; i++)
+    for (size_t i = 0; i < sizeof tag; i++)
         printf("%02x", tag[i]);
     printf("  %s\n", log_name);
     return 0;

@@ -1,5 +1,6 @@
 /* Tags a log with HMAC-SHA-1 under a key in four shares: a whole program over libflamivorse.a.
  *
+ *   cc -o tag examples/tag.c $(pkg-config --cflags --libs flamivorse)    # after make install; in a clone, after make:
  *   cc -o tag -I include examples/tag.c target/lib/libflamivorse.a
  *   ./tag examples/box.key examples/trial.log
  *
@@ -14,7 +15,7 @@
 #include <stdio.h>
 #include <stdlib.h>
 
-enum { SHARES = 4, KEY_WORDS = 16 * SHARES, KEY_LIMIT = 1024, LOG_LIMIT = 65536, TAG_BYTES = 20 };
+enum { SHARES = 4, KEY_WORDS = FLAMIVORSE_KEY_BLOCK_WORDS * SHARES };
 
 /* Ends the program with a word of why. */
 static void stop(const char *what, const char *why)
@@ -26,7 +27,7 @@ static void stop(const char *what, const char *why)
 /* Ends the program where a call was refused; else tells how many words it drew, or will draw. */
 static size_t accepted(const char *what, flamivorse_answer answer)
 {
-    if (answer.number != 0) {
+    if (answer.number != FLAMIVORSE_DONE) {
         fprintf(stderr, "tag: %s: refused, number %u (see flamivorse.h)\n", what, (unsigned)answer.number);
         exit(2);
     }
@@ -75,7 +76,7 @@ static void give_back(uint32_t *words, size_t count)
 
 int main(int argc, char **argv)
 {
-    static uint8_t key[KEY_LIMIT + 1], log[LOG_LIMIT + 1], tag[TAG_BYTES];
+    static uint8_t key[FLAMIVORSE_KEY_LIMIT + 1], log[FLAMIVORSE_MESSAGE_LIMIT + 1], tag[FLAMIVORSE_TAG_BYTES];
     static uint32_t shares[KEY_WORDS];
     if (argc != 3)
         stop("usage", "tag KEY LOG");
@@ -92,12 +93,12 @@ int main(int argc, char **argv)
     size_t log_size = read_file(log_name, log, sizeof log);
     count = accepted(log_name, flamivorse_hmac_sha1_words(SHARES, log_size));
     words = fresh_words(count);
-    accepted(log_name, flamivorse_hmac_sha1(SHARES, shares, KEY_WORDS, log, log_size, tag, TAG_BYTES, words, count));
+    accepted(log_name, flamivorse_hmac_sha1(SHARES, shares, KEY_WORDS, log, log_size, tag, sizeof tag, words, count));
     flamivorse_clear_stack();
     give_back(words, count);
     clear(shares, sizeof shares);
 
-    for (size_t i = 0; i < TAG_BYTES; i++)
+    for (size_t i = 0; i < sizeof tag; i++)
         printf("%02x", tag[i]);
     printf("  %s\n", log_name);
     return 0;

@@ -1,11 +1,12 @@
 /* Flamivorse: masked conversions of 32-bit words, masked HMAC-SHA-1 and HMAC-SHA-256, every call proved against its
  * rules.
  *
- * Link with target/lib/libflamivorse.a (make lib), on x86-64. It needs no other library.
+ * Link with libflamivorse.a, on x86-64, as pkg-config --cflags --libs flamivorse says once it is installed. It needs no
+ * other library.
  *
  * Every function takes any numbers and any lengths, answers, and ends. What no proof can see and a caller must respect:
- *  - a slice is a pointer and a length in elements, and so many elements are there;
- *  - the pointer is not null, even where the length is 0;
+ *  - a slice is a pointer and a length in elements, and so many elements are there; where the length is 0 the pointer
+ *    is not looked at, and may be null;
  *  - a slice that is written overlaps no other;
  *  - a key is split for the hash that it is used with. Its shares do not say for which: those of a key over 64 bytes
  *    that was split for the other hash give a wrong tag, and nothing is refused.
@@ -26,17 +27,6 @@
  * waiting is how many bytes wait for their block to become full (bytes % 64 of the state): for a piece of 64 bytes
  * always those of one.
  *
- * Numbers handed back; where several apply, 6 comes before all others, and of the others the least is given:
- *   0  done
- *   1  the share count is 0 or over 16, or of flamivorse_b2a_short not 1, 2, 4 or 8
- *   2  an input slice has not exactly the length that the share count asks for
- *   3  an output slice or record has not exactly its length
- *   4  the message is over 65,536 bytes, or the key given for splitting is over 1,024
- *   5  fewer words are lent than the call draws
- *   6  the state is finished, its share count is 0 or over 16, its byte count is over 65,536, its hash is not the
- *      call's, or its count of words is not what start and feeds draw for these
- * A refusal reports 0 words drawn and leaves every slice as it came. Where a call takes a state, 1 is never given.
- *
  * What stays behind: a call leaves shares on the stack below its caller and in registers, and splitting may leave bytes
  * of the key or the value itself in registers. flamivorse_clear_stack clears both. What a program keeps in its own
  * variables, a state among them, is its own to clear.
@@ -54,11 +44,49 @@
 #include <stddef.h>
 #include <stdint.h>
 
+/* The version of this header, and of the archive that comes with it. */
+#define FLAMIVORSE_VERSION_MAJOR 0
+#define FLAMIVORSE_VERSION_MINOR 2
+#define FLAMIVORSE_VERSION_PATCH 0
+#define FLAMIVORSE_VERSION "0.2.0"
+
+/* Limits. Every share count from 1 to the limit is taken. */
+#define FLAMIVORSE_SHARES_LIMIT 16
+#define FLAMIVORSE_KEY_LIMIT 1024         /* bytes of a key */
+#define FLAMIVORSE_MESSAGE_LIMIT 65536    /* bytes of a message, all pieces together */
+
+/* Lengths. */
+#define FLAMIVORSE_BLOCK_BYTES 64            /* a block of a message */
+#define FLAMIVORSE_KEY_BLOCK_WORDS 16        /* a key or a block in n shares has so many words times n */
+#define FLAMIVORSE_TAG_BYTES 20              /* a tag of HMAC-SHA-1 */
+#define FLAMIVORSE_SHA256_TAG_BYTES 32       /* one of HMAC-SHA-256 */
+#define FLAMIVORSE_CHAIN_WORDS 80            /* a chain of SHA-1, at every share count */
+#define FLAMIVORSE_SHA256_CHAIN_WORDS 128    /* one of SHA-256, and one of either hash in a state */
+#define FLAMIVORSE_B2A_2_STEPS 7             /* the record of flamivorse_b2a_2_record */
+#define FLAMIVORSE_A2B_2_STEPS 165           /* that of flamivorse_a2b_2_record */
+
+/* The numbers handed back. Where several apply, 6 comes before all others, and of the others the least is given. A
+ * refusal reports 0 words drawn and leaves every slice as it came. Where a call takes a state, 1 is never given. */
+enum flamivorse_number {
+    FLAMIVORSE_DONE = 0,
+    FLAMIVORSE_SHARE_COUNT = 1,      /* the share count is 0 or over 16, or of flamivorse_b2a_short not 1, 2, 4 or 8 */
+    FLAMIVORSE_INPUT_LENGTH = 2,     /* an input slice has not exactly the length that the share count asks for */
+    FLAMIVORSE_OUTPUT_LENGTH = 3,    /* an output slice or record has not exactly its length */
+    FLAMIVORSE_TOO_LONG = 4,         /* the message is over 65,536 bytes, or the key given for splitting over 1,024 */
+    FLAMIVORSE_SUPPLY_SHORT = 5,     /* fewer words are lent than the call draws */
+    FLAMIVORSE_STATE_UNFIT = 6       /* the state is finished, its share count is 0 or over 16, its byte count is over
+                                        65,536, its hash is not the call's, or its count of words is not what start and
+                                        feeds draw for these */
+};
+
+/* The hash that a state belongs to. */
+enum flamivorse_hash { FLAMIVORSE_SHA1 = 0, FLAMIVORSE_SHA256 = 1 };
+
 #ifdef __cplusplus
 extern "C" {
 #endif
 
-/* The number, and how many words were drawn; of a query, how many will be. */
+/* A number of enum flamivorse_number, and how many words were drawn; of a query, how many will be. */
 typedef struct { uint32_t number; uint64_t drawn; } flamivorse_answer;
 
 /* The number, and the opened word; 0 where refused. */
@@ -66,10 +94,10 @@ typedef struct { uint32_t number; uint32_t word; } flamivorse_opened;
 
 /* A chain value of SHA-1 in shares. The first 5n places are used; the others are not looked at, and are 0 in an
  * accepted answer. */
-typedef struct { uint32_t shares[80]; } flamivorse_chain;
+typedef struct { uint32_t shares[FLAMIVORSE_CHAIN_WORDS]; } flamivorse_chain;
 
 /* A chain value of SHA-256 in shares: the same with 8n places. A state has it for either hash, with 5n or 8n. */
-typedef struct { uint32_t shares[128]; } flamivorse_sha256_chain;
+typedef struct { uint32_t shares[FLAMIVORSE_SHA256_CHAIN_WORDS]; } flamivorse_sha256_chain;
 
 /* The number, how many words were drawn, and the chain after; where refused, the chain exactly as given. */
 typedef struct { uint32_t number; uint64_t drawn; flamivorse_chain chain; } flamivorse_compressed;
@@ -83,10 +111,10 @@ typedef struct {
     uint64_t bytes;                   /* how many bytes of the message were fed so far */
     uint64_t drawn;                   /* how many words start and feeds drew: those of 2 + bytes / 64 compressions */
     uint32_t finished;                /* 0; 1 after an accepted finish; anything but 0 counts as finished */
-    uint32_t hash;                    /* the hash that it belongs to: 0 is SHA-1, 1 is SHA-256, and there is no other */
+    uint32_t hash;                    /* the hash that it belongs to: of enum flamivorse_hash, and there is no other */
     flamivorse_sha256_chain inner;    /* after the inner key block and the full blocks of the message */
     flamivorse_sha256_chain outer;    /* after the outer key block */
-    uint8_t tail[64];                 /* the bytes of the block that is not yet full: the first bytes % 64 */
+    uint8_t tail[FLAMIVORSE_BLOCK_BYTES];    /* the bytes of the block that is not yet full: the first bytes % 64 */
 } flamivorse_state;
 
 /* The number, how many words were drawn, and the state after; where refused, the state exactly as given, of a start
