@@ -3,7 +3,9 @@
 use crate::calls::Outcome;
 use crate::lent::{Arguments, Lent, Outline};
 use std::ffi::{c_char, CString};
+use std::ptr;
 
+/// A slice as C has it. An empty one has the null pointer, as the header allows.
 #[repr(C)]
 struct Slice<T> {
     start: *mut T,
@@ -13,10 +15,13 @@ struct Slice<T> {
 impl<T: Clone> From<&mut Lent<T>> for Slice<T> {
     fn from(lent: &mut Lent<T>) -> Slice<T> {
         let slice = lent.slice_mut();
-        Slice {
-            start: slice.as_mut_ptr(),
-            length: slice.len(),
-        }
+        let start = if slice.is_empty() {
+            ptr::null_mut()
+        } else {
+            slice.as_mut_ptr()
+        };
+        let length = slice.len();
+        Slice { start, length }
     }
 }
 
@@ -58,8 +63,8 @@ pub fn make(name: &str, a: &mut Arguments) -> Outcome {
         outer: a.outer.slice_mut().as_mut_ptr(),
         tail: a.tail.slice_mut().as_mut_ptr(),
     };
-    // SAFETY: each slice is a memory of its own, borrowed for the call, and no pointer is null,
-    // since the guards are always there. The chains and the tail are as long as the header has them in a state.
+    // SAFETY: each slice is a memory of its own, borrowed for the call. The chains and the tail are as long as the
+    // header has them in a state.
     let outcome = unsafe { make_by_c(c_name(name).as_ptr(), &mut given) };
     a.state = given.state;
     outcome
