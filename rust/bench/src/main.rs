@@ -11,7 +11,7 @@ mod optimised;
 mod plot;
 
 use flamivorse::{
-    ChainOf, Drawn, Refusal, State, B2A_SHORT_COUNTS, MESSAGE_LIMIT, SHA256_TAG_BYTES,
+    ChainOf, Drawn, Needed, Refusal, State, B2A_SHORT_COUNTS, MESSAGE_LIMIT, SHA256_TAG_BYTES,
     SHARES_LIMIT, TAG_BYTES,
 };
 use optimised::{Convert, ConvertShort, Hash, Optimised, Sha1, Sha256, Supply};
@@ -114,6 +114,7 @@ fn shared<const N: usize, const WORDS: usize>(words: &[u32]) -> [[u32; N]; WORDS
 }
 
 type Answer = Result<Drawn, Refusal>;
+type Asked = Result<Needed, Refusal>;
 type Hmac = fn(usize, &[u32], &[u8], &mut [u8], &[u32]) -> Answer;
 
 /// The archive's calls of a hash, but for its compression, whose chain is its own.
@@ -123,9 +124,9 @@ struct Calls {
     start: fn(usize, &[u32], &mut State, &[u32]) -> Answer,
     feed: fn(&mut State, &[u8], &[u32]) -> Answer,
     finish: fn(&mut State, &mut [u8], &[u32]) -> Answer,
-    compress_words: fn(usize) -> Answer,
-    split_key_words: fn(usize, usize) -> Answer,
-    hmac_words: fn(usize, usize) -> Answer,
+    compress_words: fn(usize) -> Asked,
+    split_key_words: fn(usize, usize) -> Asked,
+    hmac_words: fn(usize, usize) -> Asked,
     tag_bytes: usize,
 }
 
@@ -300,8 +301,8 @@ where
 }
 
 /// How many words a step draws.
-fn drawn(step: &str, n: usize, bytes: usize) -> usize {
-    let drawn = match step {
+fn needed(step: &str, n: usize, bytes: usize) -> usize {
+    let needed = match step {
         "refresh" => flamivorse::refresh_words(n),
         "addition" => flamivorse::add_words(n),
         "a2b" => flamivorse::a2b_words(n),
@@ -313,12 +314,12 @@ fn drawn(step: &str, n: usize, bytes: usize) -> usize {
             (calls, _) => (calls.split_key_words)(n, key(step).len()),
         },
     };
-    drawn.expect("the share count is right").words()
+    needed.expect("the share count is right").words()
 }
 
 /// Both sides of a step on the same words: the archive's, and Rust's.
 fn sides(step: &str, n: usize, bytes: usize) -> [Step; 2] {
-    let (input, words) = random_words(16 * n + drawn(step, n, bytes)).split_at(16 * n);
+    let (input, words) = random_words(16 * n + needed(step, n, bytes)).split_at(16 * n);
     let lent = Lent {
         input,
         message: &MESSAGE[..bytes],

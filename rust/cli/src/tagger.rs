@@ -4,7 +4,8 @@ use crate::arguments::Options;
 use crate::hash::Hash;
 use crate::problem::Problem;
 use flamivorse::{
-    Bytes, Drawn, Failure, Key, Refusal, Sha1, Sha256, Supply, KEY_LIMIT, MESSAGE_LIMIT,
+    Bytes, Failure, Key, Needed, Refusal, Sha1, Sha256, Stream, Supply, Unverified, KEY_LIMIT,
+    MESSAGE_LIMIT,
 };
 use std::ffi::{OsStr, OsString};
 use std::fs::File;
@@ -31,7 +32,7 @@ impl Words {
     }
 
     /// Lends as many words as the count says.
-    fn lend(&mut self, count: Drawn) -> Result<&[u32], Problem> {
+    fn lend(&mut self, count: Needed) -> Result<&[u32], Problem> {
         let lent = self.supply.lend(count);
         lent.map_err(|error| missing(&self.name, error))
     }
@@ -95,12 +96,11 @@ impl PlainKey {
             bytes,
             shares,
         };
-        key.words::<Sha1>()?;
-        Ok(key)
+        key.words::<Sha1>().map(|_| key)
     }
 
     /// How many words its splitting draws.
-    fn words<H: flamivorse::Hash>(&self) -> Result<Drawn, Problem> {
+    fn words<H: flamivorse::Hash>(&self) -> Result<Needed, Problem> {
         let count = Key::split_for_words::<H>(self.shares, self.bytes.len());
         count.map_err(|refusal| match refusal {
             Refusal::ShareCount => Problem::refused(format!("--shares {}", self.shares), refusal),
@@ -131,29 +131,54 @@ impl PlainKey {
 pub trait Tagger {
     /// Reads a log, standard input where its name is `-`, until it ends, and gives its tag.
     fn tag(&self, name: &OsStr, words: &mut Words) -> Result<Vec<u8>, Problem>;
+
+    /// Reads a log likewise, and says whether this is its tag.
+    fn is_tag(&self, tag: &[u8], name: &OsStr, words: &mut Words) -> Result<bool, Problem>;
 }
 
 impl<H: flamivorse::Hash> Tagger for Key<H> {
     fn tag(&self, name: &OsStr, words: &mut Words) -> Result<Vec<u8>, Problem> {
         let refused = |refusal| Problem::refused(name, refusal);
-        let mut log = Log::open(name)?;
-        let mut piece = log.read_piece()?;
-        // No words are spent on a log that is already too long.
-        self.tag_words(piece.len()).map_err(refused)?;
-        let count = self.start_words().map_err(refused)?;
-        let mut stream = self.start(words.lend(count)?).map_err(refused)?;
-        while !piece.is_empty() {
-            let fed = stream.feed_by_blocks(piece, &mut words.supply);
-            fed.map_err(|failure| match failure {
-                Failure::Refused(refusal) => refused(refusal),
-                Failure::Source(error) => missing(&words.name, error),
-            })?;
-            piece = log.read_piece()?;
-        }
+        let mut stream = stream(self, name, words)?;
         let count = stream.finish_words().map_err(refused)?;
         let tag = stream.finish(words.lend(count)?).map_err(refused)?;
         Ok(tag.as_ref().to_vec())
     }
+
+    fn is_tag(&self, tag: &[u8], name: &OsStr, words: &mut Words) -> Result<bool, Problem> {
+        let refused = |refusal| Problem::refused(name, refusal);
+        let mut stream = stream(self, name, words)?;
+        let count = stream.finish_words().map_err(refused)?;
+        match stream.verify(tag, words.lend(count)?) {
+            Ok(()) => Ok(true),
+            Err(Unverified::WrongTag) => Ok(false),
+            Err(Unverified::Refused(refusal)) => Err(refused(refusal)),
+        }
+    }
+}
+
+/// Feeds a whole log to a stream, as it is read.
+fn stream<H: flamivorse::Hash>(
+    key: &Key<H>,
+    name: &OsStr,
+    words: &mut Words,
+) -> Result<Stream<H>, Problem> {
+    let refused = |refusal| Problem::refused(name, refusal);
+    let mut log = Log::open(name)?;
+    let mut piece = log.read_piece()?;
+    // No words are spent on a log that is already too long.
+    let _ = key.tag_words(piece.len()).map_err(refused)?;
+    let count = key.start_words().map_err(refused)?;
+    let mut stream = key.start(words.lend(count)?).map_err(refused)?;
+    while !piece.is_empty() {
+        let fed = stream.feed_by_blocks(piece, &mut words.supply);
+        fed.map_err(|failure| match failure {
+            Failure::Refused(refusal) => refused(refusal),
+            Failure::Source(error) => missing(&words.name, error),
+        })?;
+        piece = log.read_piece()?;
+    }
+    Ok(stream)
 }
 
 /// Opens a file, or standard input where the name is `-`.

@@ -1,30 +1,56 @@
-//! What a call hands back: how many words it drew, or why it refused.
+//! What a query and a call hand back: how many words are needed or were drawn, or why it refused.
 
-use std::error::Error;
-use std::fmt;
+use core::fmt;
 
-/// How many random words a call drew; of a query, how many the call will draw.
+/// How many random words a call will draw, as its query says: so many are to be lent to it.
 ///
 /// ```
 /// assert_eq!(flamivorse::add_words(4)?.words(), 192);
 /// # Ok::<(), flamivorse::Refusal>(())
 /// ```
+///
+/// It is not the type for what was drawn, so that neither can be taken for the other:
+///
+/// ```compile_fail,E0308
+/// let mut shares = [0; 2];
+/// let needed: flamivorse::Needed = flamivorse::split(2, 1000, &mut shares, &[7])?;
+/// # Ok::<(), flamivorse::Refusal>(())
+/// ```
 #[derive(Clone, Copy, Debug, PartialEq, Eq, PartialOrd, Ord, Hash)]
-pub struct Drawn(u64);
+#[must_use]
+pub struct Needed(u64);
 
-impl Drawn {
-    /// The count, as a length of slices.
-    #[must_use]
-    pub const fn words(self) -> usize {
-        self.0 as usize
-    }
+/// How many random words a call drew: its words up to there are spent.
+///
+/// ```
+/// let mut shares = [0; 2];
+/// assert_eq!(flamivorse::split(2, 1000, &mut shares, &[7, 8, 9])?.words(), 1);
+/// # Ok::<(), flamivorse::Refusal>(())
+/// ```
+#[derive(Clone, Copy, Debug, PartialEq, Eq, PartialOrd, Ord, Hash)]
+pub struct Drawn(pub(crate) u64);
+
+/// What both counts of words can do.
+macro_rules! count {
+    ($count:ident) => {
+        impl $count {
+            /// The count, as a length of slices.
+            #[must_use]
+            pub const fn words(self) -> usize {
+                self.0 as usize
+            }
+        }
+
+        impl fmt::Display for $count {
+            fn fmt(&self, f: &mut fmt::Formatter<'_>) -> fmt::Result {
+                self.0.fmt(f)
+            }
+        }
+    };
 }
 
-impl fmt::Display for Drawn {
-    fn fmt(&self, f: &mut fmt::Formatter<'_>) -> fmt::Result {
-        self.0.fmt(f)
-    }
-}
+count!(Needed);
+count!(Drawn);
 
 /// Why a call was refused. Where several reasons apply, number 6 comes before all others, and of the
 /// others the least is given.
@@ -95,7 +121,8 @@ impl fmt::Display for Refusal {
     }
 }
 
-impl Error for Refusal {}
+#[cfg(feature = "std")]
+impl std::error::Error for Refusal {}
 
 /// Done (number 0), or the refusal that a number stands for.
 pub(crate) fn done(number: u32) -> Result<(), Refusal> {
@@ -114,6 +141,11 @@ pub(crate) fn done(number: u32) -> Result<(), Refusal> {
 /// The count of an accepted call, or its refusal.
 pub(crate) fn drawn(number: u32, words: u64) -> Result<Drawn, Refusal> {
     done(number).map(|()| Drawn(words))
+}
+
+/// The count of an accepted query, or its refusal.
+pub(crate) fn needed(number: u32, words: u64) -> Result<Needed, Refusal> {
+    done(number).map(|()| Needed(words))
 }
 
 #[cfg(test)]

@@ -2,9 +2,10 @@
 //! this file hold the two together.
 
 use crate::answer;
-use crate::{Drawn, Refusal, SHARES_LIMIT};
-use std::arch::asm;
-use std::fmt;
+use crate::wide::{self, Width};
+use crate::{Drawn, Needed, Refusal, BLOCK_BYTES, SHARES_LIMIT};
+use core::arch::asm;
+use core::fmt;
 use zeroize::Zeroize;
 
 #[cfg(test)]
@@ -24,8 +25,14 @@ pub struct Answer {
 }
 
 impl Answer {
+    /// What it says as the answer of a call.
     pub(crate) fn result(self) -> Result<Drawn, Refusal> {
         answer::drawn(self.number, self.drawn)
+    }
+
+    /// What it says as the answer of a query.
+    pub(crate) fn needed(self) -> Result<Needed, Refusal> {
+        answer::needed(self.number, self.drawn)
     }
 }
 
@@ -117,7 +124,7 @@ pub struct State {
     pub outer: Sha256Chain,
     /// The bytes of the block that is not yet full: the first `bytes` modulo 64. The others are not
     /// looked at, and are 0 after an accepted start or feed.
-    pub tail: [u8; 64],
+    pub tail: [u8; BLOCK_BYTES],
 }
 
 impl Default for State {
@@ -131,7 +138,7 @@ impl Default for State {
             hash: 0,
             inner: Sha256Chain::default(),
             outer: Sha256Chain::default(),
-            tail: [0; 64],
+            tail: [0; BLOCK_BYTES],
         }
     }
 }
@@ -175,7 +182,8 @@ pub(crate) fn cleared<T>(calls: impl FnOnce() -> T) -> T {
 /// Clears the vector registers that the archive does not use. A chain or a state that goes by value
 /// is copied by the C library, through the widest that the machine has.
 fn clear_wide_registers() {
-    if is_x86_feature_detected!("avx512f") {
+    let width = wide::width();
+    if width >= Width::Bytes64 {
         // SAFETY: the machine has these registers, and nothing is kept in them.
         unsafe {
             asm!(
@@ -187,7 +195,7 @@ fn clear_wide_registers() {
             );
         }
     }
-    if is_x86_feature_detected!("avx") {
+    if width >= Width::Bytes32 {
         // SAFETY: as above; these are all the others, and the wide parts of those that the archive uses.
         unsafe { asm!("vzeroall", clobber_abi("sysv64"), options(nomem, nostack)) };
     }
@@ -235,8 +243,8 @@ macro_rules! queries {
         #[doc = concat!("assert_eq!(flamivorse::", stringify!($query), "(2)?.words(), ", $at_two, ");")]
         /// # Ok::<(), flamivorse::Refusal>(())
         /// ```
-        pub fn $query(n: usize) -> Result<crate::Drawn, crate::Refusal> {
-            $crate::archive::query!(archive::$function(n)).result()
+        pub fn $query(n: usize) -> Result<crate::Needed, crate::Refusal> {
+            $crate::archive::query!(archive::$function(n)).needed()
         }
     )*};
 }

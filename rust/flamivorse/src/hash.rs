@@ -3,14 +3,20 @@
 
 use crate::answer::drawn;
 use crate::archive::{self, call, cleared, query, Answer, Compressed, Streamed};
-use crate::{Chain, Drawn, Refusal, Sha256Chain, State, SHA256_TAG_BYTES, TAG_BYTES};
-use std::fmt;
+use crate::{Chain, Drawn, Needed, Refusal, Sha256Chain, State, SHA256_TAG_BYTES, TAG_BYTES};
+use core::fmt;
 
 /// The longest key that can be split, in bytes.
 pub const KEY_LIMIT: usize = 1024;
 
 /// The longest message that can be tagged, in bytes.
 pub const MESSAGE_LIMIT: usize = 65_536;
+
+/// The bytes of a block of either hash: a message is compressed by so many.
+pub const BLOCK_BYTES: usize = 64;
+
+/// The words of a key block of either hash: a key has so many times n in shares.
+pub const KEY_BLOCK_WORDS: usize = 16;
 
 /// A hash that HMAC is over: [`Sha1`] or [`Sha256`], and no other.
 ///
@@ -54,6 +60,7 @@ type ByPiece = unsafe extern "C" fn(State, usize) -> Answer;
 type ByState = unsafe extern "C" fn(State) -> Answer;
 
 /// The archive's functions of one hash.
+#[derive(Debug)]
 pub struct Functions<C> {
     pub(crate) split_key: SplitKey,
     pub(crate) compress: Compress<C>,
@@ -125,9 +132,9 @@ pub(crate) fn split_key<H: Sealed>(
 }
 
 /// How many words that draws.
-pub(crate) fn split_key_words<H: Sealed>(n: usize, key_len: usize) -> Result<Drawn, Refusal> {
+pub(crate) fn split_key_words<H: Sealed>(n: usize, key_len: usize) -> Result<Needed, Refusal> {
     let split_key_words = H::FUNCTIONS.split_key_words;
-    query!(split_key_words(n, key_len)).result()
+    query!(split_key_words(n, key_len)).needed()
 }
 
 /// Puts a block into a chain.
@@ -155,9 +162,9 @@ pub(crate) fn compress<H: Sealed>(
 }
 
 /// How many words that draws.
-pub(crate) fn compress_words<H: Sealed>(n: usize) -> Result<Drawn, Refusal> {
+pub(crate) fn compress_words<H: Sealed>(n: usize) -> Result<Needed, Refusal> {
     let compress_words = H::FUNCTIONS.compress_words;
-    query!(compress_words(n)).result()
+    query!(compress_words(n)).needed()
 }
 
 /// The tag of a whole message.
@@ -173,9 +180,9 @@ pub(crate) fn hmac<H: Sealed>(
 }
 
 /// How many words that draws.
-pub(crate) fn hmac_words<H: Sealed>(n: usize, message_len: usize) -> Result<Drawn, Refusal> {
+pub(crate) fn hmac_words<H: Sealed>(n: usize, message_len: usize) -> Result<Needed, Refusal> {
     let hmac_words = H::FUNCTIONS.hmac_words;
-    query!(hmac_words(n, message_len)).result()
+    query!(hmac_words(n, message_len)).needed()
 }
 
 /// The state before the first byte.
@@ -197,9 +204,9 @@ pub(crate) fn start<H: Sealed>(
 }
 
 /// How many words that draws.
-pub(crate) fn start_words<H: Sealed>(n: usize) -> Result<Drawn, Refusal> {
+pub(crate) fn start_words<H: Sealed>(n: usize) -> Result<Needed, Refusal> {
     let start_words = H::FUNCTIONS.start_words;
-    query!(start_words(n)).result()
+    query!(start_words(n)).needed()
 }
 
 /// The state after one more piece.
@@ -226,9 +233,9 @@ pub(crate) fn feed<H: Sealed>(
 }
 
 /// How many words that draws.
-pub(crate) fn feed_words<H: Sealed>(state: &State, piece_len: usize) -> Result<Drawn, Refusal> {
+pub(crate) fn feed_words<H: Sealed>(state: &State, piece_len: usize) -> Result<Needed, Refusal> {
     let feed_words = H::FUNCTIONS.feed_words;
-    query!(feed_words(outline(state), piece_len)).result()
+    query!(feed_words(outline(state), piece_len)).needed()
 }
 
 /// The tag of all that was fed.
@@ -255,9 +262,9 @@ pub(crate) fn finish<H: Sealed>(
 }
 
 /// How many words that draws.
-pub(crate) fn finish_words<H: Sealed>(state: &State) -> Result<Drawn, Refusal> {
+pub(crate) fn finish_words<H: Sealed>(state: &State) -> Result<Needed, Refusal> {
     let finish_words = H::FUNCTIONS.finish_words;
-    query!(finish_words(outline(state))).result()
+    query!(finish_words(outline(state))).needed()
 }
 
 /// Takes over the state of an accepted call, and how many words it drew. The answer is handed on as it

@@ -1,13 +1,12 @@
 //! A key that is kept in shares, for one hash.
 
+use crate::archive::cleared;
 use crate::hash;
-use crate::{Drawn, Hash, Refusal, Sha1, SHARES_LIMIT};
-use std::fmt;
-use std::marker::PhantomData;
-use zeroize::Zeroizing;
-
-/// The words of a key block.
-const KEY_WORDS: usize = 16;
+use crate::verify::same_tag;
+use crate::{Drawn, Hash, Needed, Refusal, Sha1, Unverified, KEY_BLOCK_WORDS, SHARES_LIMIT};
+use core::fmt;
+use core::marker::PhantomData;
+use zeroize::{Zeroize, Zeroizing};
 
 /// A key in Boolean shares, split for one hash, SHA-1 unless another is named; cleared when dropped.
 ///
@@ -46,8 +45,10 @@ const KEY_WORDS: usize = 16;
 /// let key: Key = Key::split_for::<Sha256>(1, b"Jefe", &[])?;
 /// # Ok::<(), flamivorse::Refusal>(())
 /// ```
+#[must_use]
 pub struct Key<H = Sha1> {
     n: usize,
+    /// Not in an array, so that moving the key leaves no shares behind.
     shares: Zeroizing<Vec<u32>>,
     hash: PhantomData<H>,
 }
@@ -74,7 +75,7 @@ impl Key {
     /// # Ok::<(), Box<dyn std::error::Error>>(())
     /// ```
     pub fn split_for<H: Hash>(n: usize, key: &[u8], words: &[u32]) -> Result<Key<H>, Refusal> {
-        let length = KEY_WORDS * n.min(SHARES_LIMIT);
+        let length = KEY_BLOCK_WORDS * n.min(SHARES_LIMIT);
         let mut shares = Zeroizing::new(vec![0; length]);
         hash::split_key::<H>(n, key, &mut shares, words)?;
         let hash = PhantomData;
@@ -82,7 +83,7 @@ impl Key {
     }
 
     /// How many words [`Key::split_for`] draws at n shares for a key of `key_len` bytes.
-    pub fn split_for_words<H: Hash>(n: usize, key_len: usize) -> Result<Drawn, Refusal> {
+    pub fn split_for_words<H: Hash>(n: usize, key_len: usize) -> Result<Needed, Refusal> {
         hash::split_key_words::<H>(n, key_len)
     }
 }
@@ -96,10 +97,51 @@ impl<H: Hash> Key<H> {
         Ok(tag)
     }
 
-    /// How many words [`Key::tag`] draws for a message of `message_len` bytes.
-    pub fn tag_words(&self, message_len: usize) -> Result<Drawn, Refusal> {
+    /// Says whether a tag of a whole message is the right one: works it out as [`Key::tag`] does,
+    /// compares the two in constant time, and clears the one worked out. A part of a tag is a wrong tag.
+    ///
+    /// ```
+    /// use flamivorse::{split_key_words, Key, Supply, Unverified};
+    ///
+    /// let log = b"what do ya want for nothing?";
+    /// let sent = *b"\xef\xfc\xdf\x6a\xe5\xeb\x2f\xa2\xd2\x74\x16\xd5\xf1\x84\xdf\x9c\x25\x9a\x7c\x79";
+    /// let mut supply = Supply::from_system()?;
+    /// let key = Key::split(2, b"Jefe", supply.lend(split_key_words(2, 4)?)?)?;
+    /// key.verify(log, &sent, supply.lend(key.tag_words(log.len())?)?)?;
+    ///
+    /// let verdict = key.verify(log, &sent[..10], supply.lend(key.tag_words(log.len())?)?);
+    /// assert_eq!(verdict, Err(Unverified::WrongTag));
+    /// # Ok::<(), Box<dyn std::error::Error>>(())
+    /// ```
+    pub fn verify(&self, message: &[u8], tag: &[u8], words: &[u32]) -> Result<(), Unverified> {
+        verified::<H>(tag, |right| {
+            hash::hmac::<H>(self.n, &self.shares, message, right, words)
+        })
+    }
+
+    /// How many words [`Key::tag`] and [`Key::verify`] draw for a message of `message_len` bytes.
+    pub fn tag_words(&self, message_len: usize) -> Result<Needed, Refusal> {
         hash::hmac_words::<H>(self.n, message_len)
     }
+}
+
+/// Has the right tag worked out, compares the one given with it, and clears what that leaves.
+pub(crate) fn verified<H: Hash>(
+    given: &[u8],
+    work_out: impl FnOnce(&mut [u8]) -> Result<Drawn, Refusal>,
+) -> Result<(), Unverified> {
+    cleared(|| {
+        let mut right = H::Tag::default();
+        // A refused call has written nothing.
+        work_out(right.as_mut())?;
+        let same = same_tag(right.as_ref(), given);
+        right.as_mut().zeroize();
+        if same {
+            Ok(())
+        } else {
+            Err(Unverified::WrongTag)
+        }
+    })
 }
 
 impl<H> Key<H> {

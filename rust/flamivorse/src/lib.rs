@@ -56,7 +56,9 @@
 //! which are 5 GB, and 2.4·10^9 by SHA-256. A [`Stream`] that is fed by blocks asks for the words of
 //! three compressions at once at most, there 15 MB or 28 MB.
 
+#![cfg_attr(not(feature = "std"), no_std)]
 #![deny(missing_docs)]
+#![deny(missing_debug_implementations)]
 #![deny(unsafe_op_in_unsafe_fn)]
 
 #[cfg(not(all(target_arch = "x86_64", target_pointer_width = "64")))]
@@ -65,17 +67,23 @@ compile_error!("libflamivorse.a is for x86-64");
 mod answer;
 mod archive;
 mod hash;
+#[cfg(feature = "std")]
 mod key;
 mod sha1;
 mod sha256;
 mod shares;
+#[cfg(feature = "std")]
 mod stream;
+#[cfg(feature = "std")]
 mod supply;
 mod two;
+mod verify;
+mod wide;
 
-pub use answer::{Drawn, Refusal};
+pub use answer::{Drawn, Needed, Refusal};
 pub use archive::{Chain, ChainOf, Sha256Chain, State, CHAIN_WORDS, SHA256_CHAIN_WORDS};
-pub use hash::{Hash, Sha1, Sha256, KEY_LIMIT, MESSAGE_LIMIT};
+pub use hash::{Hash, Sha1, Sha256, BLOCK_BYTES, KEY_BLOCK_WORDS, KEY_LIMIT, MESSAGE_LIMIT};
+#[cfg(feature = "std")]
 pub use key::Key;
 pub use sha1::{
     hmac_sha1, hmac_sha1_feed, hmac_sha1_feed_words, hmac_sha1_finish, hmac_sha1_finish_words,
@@ -93,6 +101,9 @@ pub use shares::{
     expand, expand_words, open_sum, open_xor, refresh, refresh_words, split, split_words,
     B2A_SHORT_COUNTS, SHARES_LIMIT,
 };
+#[cfg(feature = "std")]
 pub use stream::{Failure, Stream, Writer};
+#[cfg(feature = "std")]
 pub use supply::{Bytes, Source, Supply};
 pub use two::{a2b_2, a2b_2_record, b2a_2, b2a_2_record, A2B_2_STEPS, B2A_2_STEPS};
+pub use verify::{same_tag, Unverified};

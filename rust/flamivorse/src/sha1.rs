@@ -2,7 +2,7 @@
 //! says what it draws.
 
 use crate::hash;
-use crate::{Chain, Drawn, Refusal, Sha1, State};
+use crate::{Chain, Drawn, Needed, Refusal, Sha1, State};
 
 /// The length of a tag of HMAC-SHA-1, in bytes.
 pub const TAG_BYTES: usize = 20;
@@ -57,7 +57,7 @@ pub fn split_key(
 /// assert_eq!(split_key_words(4, 1025), Err(Refusal::TooLong));
 /// # Ok::<(), Refusal>(())
 /// ```
-pub fn split_key_words(n: usize, key_len: usize) -> Result<Drawn, Refusal> {
+pub fn split_key_words(n: usize, key_len: usize) -> Result<Needed, Refusal> {
     hash::split_key_words::<Sha1>(n, key_len)
 }
 
@@ -95,7 +95,7 @@ pub fn sha1_compress(
 /// assert_eq!(flamivorse::sha1_compress_words(2)?.words(), 10_440);
 /// # Ok::<(), flamivorse::Refusal>(())
 /// ```
-pub fn sha1_compress_words(n: usize) -> Result<Drawn, Refusal> {
+pub fn sha1_compress_words(n: usize) -> Result<Needed, Refusal> {
     hash::compress_words::<Sha1>(n)
 }
 
@@ -137,7 +137,7 @@ pub fn hmac_sha1(
 /// assert_eq!(hmac_sha1_words(2, MESSAGE_LIMIT + 1), Err(Refusal::TooLong));
 /// # Ok::<(), Refusal>(())
 /// ```
-pub fn hmac_sha1_words(n: usize, message_len: usize) -> Result<Drawn, Refusal> {
+pub fn hmac_sha1_words(n: usize, message_len: usize) -> Result<Needed, Refusal> {
     hash::hmac_words::<Sha1>(n, message_len)
 }
 
@@ -173,7 +173,7 @@ pub fn hmac_sha1_start(
 /// assert_eq!(flamivorse::hmac_sha1_start_words(2)?.words(), 20_880);
 /// # Ok::<(), flamivorse::Refusal>(())
 /// ```
-pub fn hmac_sha1_start_words(n: usize) -> Result<Drawn, Refusal> {
+pub fn hmac_sha1_start_words(n: usize) -> Result<Needed, Refusal> {
     hash::start_words::<Sha1>(n)
 }
 
@@ -201,7 +201,7 @@ pub fn hmac_sha1_feed(state: &mut State, piece: &[u8], words: &[u32]) -> Result<
 /// assert_eq!(hmac_sha1_feed_words(&state, MESSAGE_LIMIT + 1), Err(Refusal::TooLong));
 /// # Ok::<(), Refusal>(())
 /// ```
-pub fn hmac_sha1_feed_words(state: &State, piece_len: usize) -> Result<Drawn, Refusal> {
+pub fn hmac_sha1_feed_words(state: &State, piece_len: usize) -> Result<Needed, Refusal> {
     hash::feed_words::<Sha1>(state, piece_len)
 }
 
@@ -232,6 +232,6 @@ pub fn hmac_sha1_finish(
 /// assert_eq!(hmac_sha1_finish_words(&state)?.words(), 31_320);
 /// # Ok::<(), flamivorse::Refusal>(())
 /// ```
-pub fn hmac_sha1_finish_words(state: &State) -> Result<Drawn, Refusal> {
+pub fn hmac_sha1_finish_words(state: &State) -> Result<Needed, Refusal> {
     hash::finish_words::<Sha1>(state)
 }

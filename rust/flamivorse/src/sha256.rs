@@ -1,7 +1,7 @@
 //! SHA-256 and HMAC-SHA-256 on shares: the calls of `sha1` with the other hash.
 
 use crate::hash;
-use crate::{Drawn, Refusal, Sha256, Sha256Chain, State};
+use crate::{Drawn, Needed, Refusal, Sha256, Sha256Chain, State};
 
 /// The length of a tag of HMAC-SHA-256, in bytes.
 pub const SHA256_TAG_BYTES: usize = 32;
@@ -47,7 +47,7 @@ pub fn sha256_split_key(
 /// assert_eq!(sha256_split_key_words(4, 1025), Err(Refusal::TooLong));
 /// # Ok::<(), Refusal>(())
 /// ```
-pub fn sha256_split_key_words(n: usize, key_len: usize) -> Result<Drawn, Refusal> {
+pub fn sha256_split_key_words(n: usize, key_len: usize) -> Result<Needed, Refusal> {
     hash::split_key_words::<Sha256>(n, key_len)
 }
 
@@ -84,7 +84,7 @@ pub fn sha256_compress(
 /// assert_eq!(flamivorse::sha256_compress_words(2)?.words(), 19_328);
 /// # Ok::<(), flamivorse::Refusal>(())
 /// ```
-pub fn sha256_compress_words(n: usize) -> Result<Drawn, Refusal> {
+pub fn sha256_compress_words(n: usize) -> Result<Needed, Refusal> {
     hash::compress_words::<Sha256>(n)
 }
 
@@ -123,7 +123,7 @@ pub fn hmac_sha256(
 /// assert_eq!(hmac_sha256_words(2, MESSAGE_LIMIT + 1), Err(Refusal::TooLong));
 /// # Ok::<(), Refusal>(())
 /// ```
-pub fn hmac_sha256_words(n: usize, message_len: usize) -> Result<Drawn, Refusal> {
+pub fn hmac_sha256_words(n: usize, message_len: usize) -> Result<Needed, Refusal> {
     hash::hmac_words::<Sha256>(n, message_len)
 }
 
@@ -163,7 +163,7 @@ pub fn hmac_sha256_start(
 /// assert_eq!(flamivorse::hmac_sha256_start_words(2)?.words(), 38_656);
 /// # Ok::<(), flamivorse::Refusal>(())
 /// ```
-pub fn hmac_sha256_start_words(n: usize) -> Result<Drawn, Refusal> {
+pub fn hmac_sha256_start_words(n: usize) -> Result<Needed, Refusal> {
     hash::start_words::<Sha256>(n)
 }
 
@@ -187,7 +187,7 @@ pub fn hmac_sha256_feed(state: &mut State, piece: &[u8], words: &[u32]) -> Resul
 /// assert_eq!(hmac_sha256_feed_words(&state, MESSAGE_LIMIT + 1), Err(Refusal::TooLong));
 /// # Ok::<(), Refusal>(())
 /// ```
-pub fn hmac_sha256_feed_words(state: &State, piece_len: usize) -> Result<Drawn, Refusal> {
+pub fn hmac_sha256_feed_words(state: &State, piece_len: usize) -> Result<Needed, Refusal> {
     hash::feed_words::<Sha256>(state, piece_len)
 }
 
@@ -217,6 +217,6 @@ pub fn hmac_sha256_finish(
 /// assert_eq!(hmac_sha256_finish_words(&state)?.words(), 57_984);
 /// # Ok::<(), flamivorse::Refusal>(())
 /// ```
-pub fn hmac_sha256_finish_words(state: &State) -> Result<Drawn, Refusal> {
+pub fn hmac_sha256_finish_words(state: &State) -> Result<Needed, Refusal> {
     hash::finish_words::<Sha256>(state)
 }

@@ -2,15 +2,15 @@
 
 use crate::archive::cleared;
 use crate::hash;
-use crate::{Drawn, Hash, Key, Refusal, Sha1, Source, State, Supply};
+use crate::key::verified;
+use crate::{
+    Drawn, Hash, Key, Needed, Refusal, Sha1, Source, State, Supply, Unverified, BLOCK_BYTES,
+};
+use core::fmt;
+use core::iter;
+use core::marker::PhantomData;
 use std::error::Error;
-use std::fmt;
 use std::io::{self, Write};
-use std::iter;
-use std::marker::PhantomData;
-
-/// The bytes of a block.
-const BLOCK_BYTES: usize = 64;
 
 /// A message that is tagged as it comes, piece by piece: its state, cleared when dropped.
 ///
@@ -63,6 +63,7 @@ const BLOCK_BYTES: usize = 64;
 /// let mut stream: Stream<Sha256> = Key::split(1, b"Jefe", &[])?.start(&[])?;
 /// # Ok::<(), flamivorse::Refusal>(())
 /// ```
+#[must_use]
 pub struct Stream<H = Sha1> {
     /// In a box, so that moving the stream leaves no shares behind.
     state: Box<State>,
@@ -79,7 +80,7 @@ impl<H: Hash> Key<H> {
     }
 
     /// How many words [`Key::start`] draws.
-    pub fn start_words(&self) -> Result<Drawn, Refusal> {
+    pub fn start_words(&self) -> Result<Needed, Refusal> {
         hash::start_words::<H>(self.share_count())
     }
 }
@@ -91,7 +92,7 @@ impl<H: Hash> Stream<H> {
     }
 
     /// How many words [`Stream::feed`] draws for a piece of `piece_len` bytes.
-    pub fn feed_words(&self, piece_len: usize) -> Result<Drawn, Refusal> {
+    pub fn feed_words(&self, piece_len: usize) -> Result<Needed, Refusal> {
         hash::feed_words::<H>(&self.state, piece_len)
     }
 
@@ -103,8 +104,27 @@ impl<H: Hash> Stream<H> {
         Ok(tag)
     }
 
-    /// How many words [`Stream::finish`] draws.
-    pub fn finish_words(&self) -> Result<Drawn, Refusal> {
+    /// Says whether a tag of all that was fed is the right one, as [`Key::verify`] does for a whole
+    /// message. After it, whatever it says of the tag, the stream refuses every call.
+    ///
+    /// ```
+    /// use flamivorse::{Key, Unverified};
+    ///
+    /// let mut stream = Key::split(1, b"Jefe", &[])?.start(&[])?;
+    /// stream.feed(b"what do ya want for nothing?", &[])?;
+    /// let right = stream.clone().finish(&[])?;
+    /// stream.clone().verify(&right, &[])?;
+    /// assert_eq!(stream.verify(&[0; 20], &[]), Err(Unverified::WrongTag));
+    /// # Ok::<(), Unverified>(())
+    /// ```
+    pub fn verify(&mut self, tag: &[u8], words: &[u32]) -> Result<(), Unverified> {
+        verified::<H>(tag, |right| {
+            hash::finish::<H>(&mut self.state, right, words)
+        })
+    }
+
+    /// How many words [`Stream::finish`] and [`Stream::verify`] draw.
+    pub fn finish_words(&self) -> Result<Needed, Refusal> {
         hash::finish_words::<H>(&self.state)
     }
 
@@ -118,7 +138,7 @@ impl<H: Hash> Stream<H> {
         piece: &[u8],
         supply: &mut Supply<S>,
     ) -> Result<Drawn, Failure<S::Error>> {
-        let drawn = self.feed_words(piece.len())?;
+        let _ = self.feed_words(piece.len())?;
         let filled = self.state.bytes as usize % BLOCK_BYTES;
         let (first, rest) = piece.split_at(piece.len().min(BLOCK_BYTES - filled));
         let mut fed = self.clone();
@@ -126,8 +146,9 @@ impl<H: Hash> Stream<H> {
             let words = supply.lend(fed.feed_words(part.len())?);
             fed.feed(part, words.map_err(Failure::Source)?)?;
         }
+        let drawn = fed.state.drawn.wrapping_sub(self.state.drawn);
         *self = fed;
-        Ok(drawn)
+        Ok(Drawn(drawn))
     }
 
     /// Something to write the message to, with words from a supply.
@@ -186,9 +207,18 @@ impl<H> fmt::Debug for Stream<H> {
 /// A stream and the supply of its words, to write a message to; made by [`Stream::writer`].
 ///
 /// Each write feeds all that it is given, or nothing ([`Stream::feed_by_blocks`]).
+#[must_use]
 pub struct Writer<'a, S, H = Sha1> {
     stream: &'a mut Stream<H>,
     supply: &'a mut Supply<S>,
+}
+
+impl<S, H> fmt::Debug for Writer<'_, S, H> {
+    fn fmt(&self, f: &mut fmt::Formatter<'_>) -> fmt::Result {
+        f.debug_struct("Writer")
+            .field("stream", &self.stream)
+            .finish_non_exhaustive()
+    }
 }
 
 impl<S, H> Write for Writer<'_, S, H>

@@ -1,6 +1,7 @@
 //! Fresh random words for the calls, from any source the caller has.
 
-use crate::Drawn;
+use crate::Needed;
+use core::fmt;
 use std::fs::File;
 use std::io::{self, Read};
 use zeroize::{Zeroize, Zeroizing};
@@ -51,11 +52,17 @@ where
 /// assert!(supply.lend(split_words(2)?).is_err());
 /// # Ok::<(), Box<dyn std::error::Error>>(())
 /// ```
-#[derive(Debug)]
 pub struct Bytes<R>(
     /// Where the bytes are read from. An end inside a request is [`io::ErrorKind::UnexpectedEof`].
     pub R,
 );
+
+impl<R> fmt::Debug for Bytes<R> {
+    /// Nothing of where the bytes are read from: a slice would show them.
+    fn fmt(&self, f: &mut fmt::Formatter<'_>) -> fmt::Result {
+        f.debug_struct("Bytes").finish_non_exhaustive()
+    }
+}
 
 impl<R: Read> Source for Bytes<R> {
     type Error = io::Error;
@@ -75,6 +82,7 @@ impl<R: Read> Source for Bytes<R> {
 
 /// Lends each call exactly the words that its query asks for, each word once. What was lent is
 /// cleared before the next lending and when the supply is dropped.
+#[must_use]
 pub struct Supply<S> {
     source: S,
     words: Zeroizing<Vec<u32>>,
@@ -90,7 +98,7 @@ impl<S: Source> Supply<S> {
     }
 
     /// Lends as many fresh words as a query says, or gives the source's error.
-    pub fn lend(&mut self, count: Drawn) -> Result<&[u32], S::Error> {
+    pub fn lend(&mut self, count: Needed) -> Result<&[u32], S::Error> {
         self.words.zeroize();
         // A long key draws many more words than a block does. Their room, if it were kept, would be
         // cleared again before each block.
@@ -98,6 +106,12 @@ impl<S: Source> Supply<S> {
         self.words.resize(count.words(), 0);
         self.source.fill(&mut self.words)?;
         Ok(&self.words)
+    }
+}
+
+impl<S> fmt::Debug for Supply<S> {
+    fn fmt(&self, f: &mut fmt::Formatter<'_>) -> fmt::Result {
+        f.debug_struct("Supply").finish_non_exhaustive()
     }
 }
 

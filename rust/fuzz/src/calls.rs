@@ -6,8 +6,8 @@ use crate::hashes::Hash;
 use crate::lent::{Arguments, Lengths, Outline};
 use crate::states::{by_archive, by_second};
 use flamivorse::{
-    Drawn, Refusal, State, A2B_2_STEPS, B2A_2_STEPS, B2A_SHORT_COUNTS, KEY_LIMIT, MESSAGE_LIMIT,
-    SHARES_LIMIT,
+    Drawn, Needed, Refusal, State, A2B_2_STEPS, B2A_2_STEPS, B2A_SHORT_COUNTS, KEY_LIMIT,
+    MESSAGE_LIMIT, SHARES_LIMIT,
 };
 
 /// The share counts that are not refused; by the short conversion most of them are.
@@ -65,15 +65,26 @@ impl From<u32> for Outcome {
     }
 }
 
+/// The outcome of a call or a query that hands back a count of words.
+fn counted(answer: Result<usize, Refusal>) -> Outcome {
+    match answer {
+        Ok(words) => Outcome {
+            number: 0,
+            count: words as u64,
+        },
+        Err(refusal) => refused(refusal.number()),
+    }
+}
+
 impl From<Result<Drawn, Refusal>> for Outcome {
     fn from(answer: Result<Drawn, Refusal>) -> Outcome {
-        match answer {
-            Ok(drawn) => Outcome {
-                number: 0,
-                count: drawn.words() as u64,
-            },
-            Err(refusal) => refused(refusal.number()),
-        }
+        counted(answer.map(Drawn::words))
+    }
+}
+
+impl From<Result<Needed, Refusal>> for Outcome {
+    fn from(answer: Result<Needed, Refusal>) -> Outcome {
+        counted(answer.map(Needed::words))
     }
 }
 

@@ -5,7 +5,7 @@
 use crate::against_second::compare_supplies;
 use crate::hashes::{with_each_hash, Tested};
 use crate::{report, streams};
-use flamivorse::{open_xor, split_key_words, Drawn, Key, Sha1, KEY_LIMIT, SHARES_LIMIT};
+use flamivorse::{open_xor, split_key_words, Key, Needed, Sha1, KEY_LIMIT, SHARES_LIMIT};
 use fuzz::calls::{refused, Target, COUNTS, SOME_COUNTS};
 use fuzz::hashes::Hash;
 use fuzz::lent::{Arguments, Lengths};
@@ -64,7 +64,7 @@ const DRAWN: [(Hash, usize, [usize; SOME_COUNTS.len()]); 12] = [
 fn counts<H: Tested>() {
     let mut cases = 0;
     for (_, length, drawn) in DRAWN.iter().filter(|row| row.0 == H::calls().hash) {
-        let asked = SOME_COUNTS.map(|n| Key::split_for_words::<H>(n, *length).map(Drawn::words));
+        let asked = SOME_COUNTS.map(|n| Key::split_for_words::<H>(n, *length).map(Needed::words));
         assert_eq!(asked, drawn.map(Ok));
         cases += asked.len();
     }

@@ -7,8 +7,8 @@ use flamivorse::{
     a2b, a2b_words, add, add_words, and, and_words, b2a_2_record, b2a_short, b2a_short_words,
     b2a_words, expand, expand_words, hmac_sha1_start_words, hmac_sha1_words,
     hmac_sha256_start_words, hmac_sha256_words, refresh, refresh_words, sha1_compress_words,
-    sha256_compress_words, split_key, split_words, Drawn, Refusal, B2A_SHORT_COUNTS, MESSAGE_LIMIT,
-    SHARES_LIMIT,
+    sha256_compress_words, split_key, split_words, Drawn, Needed, Refusal, B2A_SHORT_COUNTS,
+    MESSAGE_LIMIT, SHARES_LIMIT,
 };
 use fuzz::calls::COUNTS;
 
@@ -98,7 +98,7 @@ const B2A: Counts = [
 
 #[test]
 fn counts() {
-    type Query = fn(usize) -> Result<Drawn, Refusal>;
+    type Query = fn(usize) -> Result<Needed, Refusal>;
     let pairs: Counts = COUNTS.map(|n| n * (n - 1) / 2);
     let expected: [(Query, Counts); 11] = [
         (split_words, COUNTS.map(|n| n - 1)),
@@ -114,7 +114,7 @@ fn counts() {
         (hmac_sha256_start_words, pairs.map(|pairs| 38_656 * pairs)),
     ];
     for (query, counts) in expected {
-        let told = COUNTS.map(|n| query(n).map(Drawn::words));
+        let told = COUNTS.map(|n| query(n).map(Needed::words));
         assert_eq!(told, counts.map(Ok));
         assert_eq!(
             [0, SHARES_LIMIT + 1].map(query),
@@ -130,7 +130,7 @@ fn counts() {
 /// The short conversion keeps its four share counts.
 #[test]
 fn counts_of_the_short_conversion() {
-    let short = B2A_SHORT_COUNTS.map(|n| b2a_short_words(n).map(Drawn::words));
+    let short = B2A_SHORT_COUNTS.map(|n| b2a_short_words(n).map(Needed::words));
     assert_eq!(short, [0, 4, 40, 868].map(Ok));
     let others = COUNTS.into_iter().filter(|n| !B2A_SHORT_COUNTS.contains(n));
     for n in others {
@@ -145,15 +145,15 @@ fn counts_of_the_short_conversion() {
 /// At two shares around the end of a block's padding, and at each count what the longest draws.
 #[test]
 fn counts_of_tags() {
-    type Query = fn(usize, usize) -> Result<Drawn, Refusal>;
+    type Query = fn(usize, usize) -> Result<Needed, Refusal>;
     let expected: [(Query, [usize; 2], usize); 2] = [
         (hmac_sha1_words, [41_760, 52_200], 5_220),
         (hmac_sha256_words, [77_312, 96_640], 9_664),
     ];
     for (query, at_two, compression) in expected {
-        let tags = [55, 56].map(|length| query(2, length).map(Drawn::words));
+        let tags = [55, 56].map(|length| query(2, length).map(Needed::words));
         assert_eq!(tags, at_two.map(Ok));
-        let longest = COUNTS.map(|n| query(n, MESSAGE_LIMIT).map(Drawn::words));
+        let longest = COUNTS.map(|n| query(n, MESSAGE_LIMIT).map(Needed::words));
         assert_eq!(
             longest,
             COUNTS.map(|n| Ok(1_028 * compression * n * (n - 1)))

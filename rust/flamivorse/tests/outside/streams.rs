@@ -5,7 +5,7 @@
 use crate::hashes::{with_each_hash, Tested};
 use crate::tags::tag;
 use flamivorse::{
-    Drawn, Failure, Hash, Key, Refusal, Source, State, Stream, Supply, MESSAGE_LIMIT,
+    Drawn, Failure, Hash, Key, Needed, Refusal, Source, State, Stream, Supply, MESSAGE_LIMIT,
     SHA256_CHAIN_WORDS,
 };
 use fuzz::calls::{quick_message, SOME_COUNTS};
@@ -57,7 +57,7 @@ impl Words {
     /// refused and must change nothing.
     fn lent<T>(
         &mut self,
-        count: Result<Drawn, Refusal>,
+        count: Result<Needed, Refusal>,
         mut call: impl FnMut(&[u32]) -> Result<T, Refusal>,
     ) -> T {
         let words = self.random.words(count.expect("a fit state").words());
@@ -111,7 +111,7 @@ pub fn compare<H: Tested>(n: usize, key: &[u8], message: &[u8], cuts: &[Vec<usiz
     assert_eq!(whole.0, H::outside_tag(key, message));
     let in_one_call = tag::<H>(n, key, message, &mut Random::new(502));
     assert_eq!(in_one_call, Ok(whole.0));
-    let count = split.tag_words(message.len()).map(Drawn::words);
+    let count = split.tag_words(message.len()).map(Needed::words);
     assert_eq!(count, Ok(whole.2));
     for lengths in cuts {
         let again = in_pieces(&split, message, lengths);
@@ -373,7 +373,7 @@ fn fed_by_blocks<H: Tested>() {
                 assert!(fields(stream.state()) == fields(begun::<H>(n, before).state()));
             }
             let drawn = stream.feed_by_blocks(piece, &mut ending(need.words(), &most));
-            assert!(matches!(drawn, Ok(drawn) if drawn == need));
+            assert!(matches!(drawn, Ok(drawn) if drawn.words() == need.words()));
             assert!(most.get() as u64 <= H::calls().hash.compression_words(n));
 
             let mut whole = begun::<H>(n, before);
