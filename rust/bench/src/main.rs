@@ -11,8 +11,8 @@ mod optimised;
 mod plot;
 
 use flamivorse::{
-    ChainOf, Drawn, Needed, Refusal, State, B2A_SHORT_COUNTS, MESSAGE_LIMIT, SHA256_TAG_BYTES,
-    SHARES_LIMIT, TAG_BYTES,
+    ChainOf, Drawn, Needed, Refusal, State, B2A_SHORT_COUNTS, CHAIN_WORDS, MESSAGE_LIMIT,
+    SHA256_CHAIN_WORDS, SHA256_TAG_BYTES, SHARES_LIMIT, TAG_BYTES,
 };
 use optimised::{Convert, ConvertShort, Hash, Optimised, Sha1, Sha256, Supply};
 use std::hint::black_box;
@@ -188,10 +188,12 @@ fn archive<const N: usize>(step: &str, lent: Lent) -> Step {
             flamivorse::b2a_short(N, black_box(x), &mut z, words).expect(DONE);
             digest(z)
         }),
-        "compression" => Box::new(move || compressed::<N, 5, _>(flamivorse::sha1_compress, lent)),
-        "sha256-compression" => {
-            Box::new(move || compressed::<N, 8, _>(flamivorse::sha256_compress, lent))
+        "compression" => {
+            Box::new(move || compressed::<N, 5, CHAIN_WORDS>(flamivorse::sha1_compress, lent))
         }
+        "sha256-compression" => Box::new(move || {
+            compressed::<N, 8, SHA256_CHAIN_WORDS>(flamivorse::sha256_compress, lent)
+        }),
         _ => match hashed(step) {
             (calls, "tag") => Box::new(move || tag::<N>(calls, lent)),
             (calls, "streamed") => Box::new(move || streamed::<N>(calls, lent)),
