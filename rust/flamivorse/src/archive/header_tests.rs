@@ -1,7 +1,9 @@
-//! Holds the declarations of archive.rs to include/flamivorse.h (functions, sizes, offsets) and to
-//! the symbols of the archive.
+//! Holds the declarations of archive.rs and the crate's constants to include/flamivorse.h (functions,
+//! sizes, offsets, macros, numbers), and the declarations to the symbols of the archive.
 
+use super::tested::Tested;
 use super::*;
+use crate::*;
 use std::collections::{BTreeMap, BTreeSet};
 use std::io::Write;
 use std::mem::{align_of, offset_of, size_of};
@@ -51,14 +53,20 @@ fn type_and_name(c: &str) -> (String, String) {
     (rust_type(c[..end].trim()), c[end..].to_string())
 }
 
+/// The header without comments.
+fn header() -> String {
+    let mut text = std::fs::read_to_string(HEADER).expect("the header");
+    while let Some(start) = text.find("/*") {
+        let end = start + text[start..].find("*/").expect("the comment's end") + 2;
+        text.replace_range(start..end, "");
+    }
+    text
+}
+
 /// The header without comments and lines for the preprocessor, on one line.
 fn header_code() -> String {
-    let mut code = std::fs::read_to_string(HEADER).expect("the header");
-    while let Some(start) = code.find("/*") {
-        let end = start + code[start..].find("*/").expect("the comment's end") + 2;
-        code.replace_range(start..end, "");
-    }
-    let lines = code
+    let text = header();
+    let lines = text
         .lines()
         .filter(|line| !line.starts_with('#') && !line.contains("extern"));
     lines
@@ -142,7 +150,6 @@ fn layouts() -> String {
         }};
     }
     [
-        format!("#include \"{HEADER}\"\n"),
         layout!("flamivorse_answer", Answer: number, drawn),
         layout!("flamivorse_opened", Opened: number, word),
         layout!("flamivorse_chain", Chain: shares),
@@ -155,15 +162,83 @@ fn layouts() -> String {
     .concat()
 }
 
-#[test]
-fn the_header_lays_the_structs_out_alike() {
+/// Whether C compiles with the header.
+fn compiles(asserts: &str) -> bool {
     let mut compiler = tool("CC", "cc")
         .args(["-std=c11", "-Werror", "-fsyntax-only", "-x", "c", "-"])
         .stdin(Stdio::piped())
         .spawn()
         .expect("a C compiler");
     let mut input = compiler.stdin.take().expect("its input");
-    input.write_all(layouts().as_bytes()).expect("the program");
+    let program = format!("#include \"{HEADER}\"\n{asserts}");
+    input.write_all(program.as_bytes()).expect("the program");
     drop(input);
-    assert!(compiler.wait().expect("its end").success());
+    compiler.wait().expect("its end").success()
+}
+
+#[test]
+fn the_header_lays_the_structs_out_alike() {
+    assert!(compiles(&layouts()));
+}
+
+/// A part of the crate's version.
+fn part(text: &str) -> usize {
+    text.parse().expect("a number")
+}
+
+/// Each constant of the header, with the value that Rust has for it.
+#[rustfmt::skip]
+fn constants() -> [(&'static str, usize); 23] {
+    [
+        ("VERSION_MAJOR", part(env!("CARGO_PKG_VERSION_MAJOR"))),
+        ("VERSION_MINOR", part(env!("CARGO_PKG_VERSION_MINOR"))),
+        ("VERSION_PATCH", part(env!("CARGO_PKG_VERSION_PATCH"))),
+        ("SHARES_LIMIT", SHARES_LIMIT),
+        ("KEY_LIMIT", KEY_LIMIT),
+        ("MESSAGE_LIMIT", MESSAGE_LIMIT),
+        ("TAG_BYTES", TAG_BYTES),
+        ("SHA256_TAG_BYTES", SHA256_TAG_BYTES),
+        ("CHAIN_WORDS", CHAIN_WORDS),
+        ("SHA256_CHAIN_WORDS", SHA256_CHAIN_WORDS),
+        ("B2A_2_STEPS", B2A_2_STEPS),
+        ("A2B_2_STEPS", A2B_2_STEPS),
+        ("KEY_BLOCK_WORDS", KEY_BLOCK_WORDS),
+        ("BLOCK_BYTES", BLOCK_BYTES),
+        ("DONE", 0),
+        ("SHARE_COUNT", Refusal::ShareCount.number() as usize),
+        ("INPUT_LENGTH", Refusal::InputLength.number() as usize),
+        ("OUTPUT_LENGTH", Refusal::OutputLength.number() as usize),
+        ("TOO_LONG", Refusal::TooLong.number() as usize),
+        ("SUPPLY_SHORT", Refusal::SupplyShort.number() as usize),
+        ("STATE_UNFIT", Refusal::StateUnfit.number() as usize),
+        ("SHA1", Sha1::CODE as usize),
+        ("SHA256", Sha256::CODE as usize),
+    ]
+}
+
+#[test]
+fn the_header_gives_the_constants_the_same_values() {
+    let asserts = constants().map(|(name, value)| {
+        format!("_Static_assert(FLAMIVORSE_{name} == {value}, \"{name}\");\n")
+    });
+    assert!(compiles(&asserts.concat()));
+    let text = header();
+    let mut lines = text.lines().map(|line| line.split_whitespace());
+    let version = concat!("\"", env!("CARGO_PKG_VERSION"), "\"");
+    assert!(lines.any(|words| words.eq(["#define", "FLAMIVORSE_VERSION", version])));
+}
+
+#[test]
+fn the_header_has_no_constants_besides() {
+    let text = header();
+    let words = text.split(|letter: char| !letter.is_alphanumeric() && letter != '_');
+    let named: BTreeSet<&str> = words
+        .filter_map(|word| word.strip_prefix("FLAMIVORSE_"))
+        .collect();
+    let constants = constants().map(|(name, _)| name);
+    // H guards the header; VERSION is a text.
+    assert_eq!(
+        named,
+        constants.into_iter().chain(["H", "VERSION"]).collect()
+    );
 }
