@@ -38,12 +38,12 @@ pub fn verdict(name: &OsStr, verdict: &str) -> Vec<u8> {
 
 /// What a line without its end says.
 pub fn read(line: &[u8]) -> Line {
-    let Some((digits, name)) = split(line) else {
-        return Line::NoTag;
-    };
-    match (Hash::by_digits(digits.len()), hex::decode(digits)) {
-        (Some(hash), Ok(tag)) => Line::Tag { hash, tag, name },
-        _ => Line::OtherLength,
+    match split(line) {
+        None => Line::NoTag,
+        Some((digits, name)) => match (Hash::by_digits(digits.len()), hex::decode(digits)) {
+            (Some(hash), Ok(tag)) => Line::Tag { hash, tag, name },
+            _ => Line::OtherLength,
+        },
     }
 }
 

@@ -20,7 +20,7 @@ use tagger::{PlainKey, Words};
 
 /// How a run ends.
 #[derive(Clone, Copy)]
-enum Status {
+pub enum Status {
     /// All done, and every tag checked was right.
     Done = 0,
     /// A tag was not right.
