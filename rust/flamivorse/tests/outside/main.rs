@@ -15,6 +15,7 @@ mod refusals;
 mod streams;
 mod tags;
 mod two_shares;
+mod without_std;
 
 /// Says how many cases a test ran.
 fn report(cases: usize, what: &str) {
