@@ -1,11 +1,11 @@
 //! What is left on the stack and in registers: after the archive's own call shares are found there,
-//! after a safe call none are, and of the stack nothing is. And what is left of a state that was
-//! dropped.
+//! after a safe call none are, and of the stack nothing is; nor is the right tag after another was
+//! found wrong. And what is left of a state that was dropped.
 
 use super::tested::Tested;
 use super::*;
 use crate::hash::{self, Sealed};
-use crate::{Sha1, Sha256};
+use crate::{Key, Sha1, Sha256, Unverified};
 use std::arch::asm;
 use std::mem::MaybeUninit;
 
@@ -103,6 +103,16 @@ impl Found {
     fn count(&self, words: &[u32]) -> usize {
         let found = |word: &&u32| self.stack.contains(word) || self.registers.contains(word);
         words.iter().filter(found).count()
+    }
+
+    /// Whether four bytes that follow each other here do so there, wherever they start.
+    fn has_bytes_of(&self, bytes: &[u8]) -> bool {
+        let found = [&self.stack[..], &self.registers[..]].map(|words| {
+            let found = words.iter().flat_map(|word| word.to_ne_bytes());
+            found.collect::<Vec<u8>>()
+        });
+        let mut windows = found.iter().flat_map(|found| found.windows(4));
+        windows.any(|four| bytes.windows(4).any(|other| other == four))
     }
 
     /// How many words a call has left on the stack, shares or not.
@@ -376,6 +386,32 @@ fn started_by_the_safe_call<H: Tested>() {
         assert!(started.is_ok());
         assert_eq!(call.found.left(), 0);
         assert_eq!(call.found.of_state::<H>(&call.state), 0);
+    }
+}
+
+#[test]
+fn no_right_tag_is_found_after_a_wrong_one() {
+    verified_by_the_safe_call::<Sha1>();
+    verified_by_the_safe_call::<Sha256>();
+}
+
+fn verified_by_the_safe_call<H: Tested>() {
+    for n in COUNTS {
+        let (key, words) = (fresh(16, KEY), fresh(16 * (n - 1), BLOCK));
+        let key: Vec<u8> = key.into_iter().flat_map(u32::to_be_bytes).collect();
+        let key = Key::split_for::<H>(n, &key, &words).expect("its words");
+        let count = key.tag_words(1).expect("a right count");
+        let words = fresh(count.words(), SUPPLY);
+        let right = key.tag(&[0], &words).expect("its words");
+        let mut found = Found::nothing();
+        Found::paint();
+        // A frame of its own, so that no copy stands in this one, which is not looked at.
+        let verdict = in_own_frame(|| key.verify(&[0], &[0; 20], &words));
+        found.look();
+        assert_eq!(verdict, Err(Unverified::WrongTag));
+        assert_eq!(found.left(), 0);
+        assert!(!found.has_bytes_of(right.as_ref()));
+        assert_eq!(found.count(key.shares()), 0);
     }
 }
 

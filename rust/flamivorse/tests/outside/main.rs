@@ -14,7 +14,9 @@ mod reference;
 mod refusals;
 mod streams;
 mod tags;
+mod texts;
 mod two_shares;
+mod verified;
 mod without_std;
 
 /// Says how many cases a test ran.
