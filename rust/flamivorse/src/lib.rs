@@ -20,6 +20,18 @@
 //!
 //! A key that is split for SHA-256, by [`Key::split_for`], makes tags of that hash.
 //!
+//! Whoever gets a tag has it verified, and does not compare it with `==`, which tells by its time how
+//! much of a forged tag is right:
+//!
+//! ```
+//! # use flamivorse::{hmac_sha1_words, split_key_words, Key, Supply};
+//! # let (log, mut supply) = (b"07:30 door opened", Supply::from_system()?);
+//! # let key = Key::split(4, b"sixteen byte key", supply.lend(split_key_words(4, 16)?)?)?;
+//! # let tag = key.tag(log, supply.lend(hmac_sha1_words(4, log.len())?)?)?;
+//! key.verify(log, &tag, supply.lend(hmac_sha1_words(4, log.len())?)?)?;
+//! # Ok::<(), Box<dyn std::error::Error>>(())
+//! ```
+//!
 //! A message that comes in pieces is fed to a [`Stream`] as it comes, so that neither it nor all its
 //! words are ever in memory at once:
 //!
@@ -49,12 +61,29 @@
 //! # Words
 //!
 //! Each call that draws random words takes them as a slice, uses them from its start, and says how
-//! many it drew. Each word must be fresh: no word may serve two draws. For every such call a query
-//! of the same name with `_words` says how many it draws, and a [`Supply`] lends as many.
+//! many it drew ([`Drawn`]). Each word must be fresh: no word may serve two draws. For every such call
+//! a query of the same name with `_words` says how many it draws ([`Needed`]), and a [`Supply`] lends
+//! as many.
 //!
 //! They grow with n(n − 1): a tag of the longest message at 16 shares draws 1.3·10^9 words by SHA-1,
 //! which are 5 GB, and 2.4·10^9 by SHA-256. A [`Stream`] that is fed by blocks asks for the words of
 //! three compressions at once at most, there 15 MB or 28 MB.
+//!
+//! # Features
+//!
+//! `std`, which is on unless `default-features = false` is said: [`Key`], [`Stream`] and its
+//! [`Writer`], [`Supply`] with its [`Source`] and [`Bytes`], [`Failure`], and the errors as
+//! [`std::error::Error`]. A key and a stream keep their shares where no move copies them, which takes
+//! an allocation.
+//!
+//! Without it the crate needs `core` alone and allocates nothing. All other calls are there, on slices
+//! and on a [`State`], and [`same_tag`] compares tags. A [`State`] or a chain that is moved leaves its
+//! shares where it was: it is best made in its place, and lent.
+//!
+//! # Rust versions
+//!
+//! The crate builds with Rust 1.63 and cargo 1.65, which are Debian 12's; its tests and the command
+//! line build with Rust 1.85.
 
 #![cfg_attr(not(feature = "std"), no_std)]
 #![deny(missing_docs)]
