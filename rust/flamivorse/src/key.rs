@@ -90,7 +90,8 @@ impl Key {
 
 impl<H: Hash> Key<H> {
     /// The tag of a whole message of at most [`MESSAGE_LIMIT`](crate::MESSAGE_LIMIT) bytes, as
-    /// [`hmac_sha1`](crate::hmac_sha1) or [`hmac_sha256`](crate::hmac_sha256) gives it.
+    /// [`hmac_sha1`](crate::hmac_sha1) or [`hmac_sha256`](crate::hmac_sha256) gives it. A tag that came
+    /// with the message is for [`Key::verify`].
     pub fn tag(&self, message: &[u8], words: &[u32]) -> Result<H::Tag, Refusal> {
         let mut tag = H::Tag::default();
         hash::hmac::<H>(self.n, &self.shares, message, tag.as_mut(), words)?;
@@ -125,7 +126,7 @@ impl<H: Hash> Key<H> {
     }
 }
 
-/// Has the right tag worked out, compares the one given with it, and clears what that leaves.
+/// Has the right tag worked out, compares the one given with it, and clears it and what that leaves.
 pub(crate) fn verified<H: Hash>(
     given: &[u8],
     work_out: impl FnOnce(&mut [u8]) -> Result<Drawn, Refusal>,

@@ -102,7 +102,8 @@ pub fn sha1_compress_words(n: usize) -> Result<Needed, Refusal> {
 /// The HMAC-SHA-1 tag of a whole message of at most [`MESSAGE_LIMIT`](crate::MESSAGE_LIMIT) bytes, under a key of 16n
 /// words as [`split_key`] writes it.
 ///
-/// `tag` has [`TAG_BYTES`] bytes. The tag is opened, and nothing else.
+/// `tag` has [`TAG_BYTES`] bytes. The tag is opened, and nothing else. One that came with the message
+/// is compared with it by [`same_tag`](crate::same_tag).
 ///
 /// All its words are lent at once, those of a compression for each block of the message: for a long
 /// message at many shares they are more than most memories hold ([`hmac_sha1_words`]). A

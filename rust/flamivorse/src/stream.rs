@@ -133,11 +133,23 @@ impl<H: Hash> Stream<H> {
     ///
     /// A refusal comes before any word is lent. Where the source fails the stream is as it was before
     /// the piece, and the words lent until then are spent.
+    ///
+    /// ```
+    /// use flamivorse::{split_key_words, Key, Supply};
+    ///
+    /// let mut supply = Supply::from_system()?;
+    /// let key = Key::split(2, b"Jefe", supply.lend(split_key_words(2, 4)?)?)?;
+    /// let mut stream = key.start(supply.lend(key.start_words()?)?)?;
+    /// let drawn = stream.feed_by_blocks(&[0; 1000], &mut supply)?;
+    /// assert_eq!(drawn.words(), 15 * 10_440);
+    /// # Ok::<(), Box<dyn std::error::Error>>(())
+    /// ```
     pub fn feed_by_blocks<S: Source>(
         &mut self,
         piece: &[u8],
         supply: &mut Supply<S>,
     ) -> Result<Drawn, Failure<S::Error>> {
+        // Asked of the whole piece, so that a refusal comes before any word is lent.
         let _ = self.feed_words(piece.len())?;
         let filled = self.state.bytes as usize % BLOCK_BYTES;
         let (first, rest) = piece.split_at(piece.len().min(BLOCK_BYTES - filled));

@@ -2,7 +2,7 @@
 //! from a wrong tag.
 
 use crate::hashes::{with_each_hash, Tested};
-use flamivorse::{same_tag, Key, Refusal, Stream, Unverified, MESSAGE_LIMIT};
+use flamivorse::{same_tag, Key, Needed, Refusal, Stream, Unverified, MESSAGE_LIMIT};
 use fuzz::random::Random;
 
 with_each_hash!(right_and_wrong_tags, refusals, after_a_verdict);
@@ -19,7 +19,7 @@ struct Verifying<H> {
 impl<H: Tested> Verifying<H> {
     fn new(n: usize) -> Verifying<H> {
         let (mut random, message) = (Random::new(800), b"07:30 door opened".to_vec());
-        let mut lent = |count: Result<flamivorse::Needed, Refusal>| {
+        let mut lent = |count: Result<Needed, Refusal>| {
             random.words(count.expect("within the limits").words())
         };
         let words = lent(Key::split_for_words::<H>(n, 3));
