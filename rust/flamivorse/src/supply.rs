@@ -1,5 +1,6 @@
 //! Fresh random words for the calls, from any source the caller has.
 
+use crate::archive::cleared;
 use crate::Needed;
 use core::fmt;
 use std::fs::File;
@@ -81,7 +82,8 @@ impl<R: Read> Source for Bytes<R> {
 }
 
 /// Lends each call exactly the words that its query asks for, each word once. What was lent is
-/// cleared before the next lending and when the supply is dropped.
+/// cleared before the next lending and when the supply is dropped; what the source left of the words
+/// on the stack and in registers, at once.
 #[must_use]
 pub struct Supply<S> {
     source: S,
@@ -104,7 +106,7 @@ impl<S: Source> Supply<S> {
         // cleared again before each block.
         self.words.shrink_to(count.words());
         self.words.resize(count.words(), 0);
-        self.source.fill(&mut self.words)?;
+        cleared(|| self.source.fill(&mut self.words))?;
         Ok(&self.words)
     }
 }

@@ -1,11 +1,11 @@
 //! What is left on the stack and in registers: after the archive's own call shares are found there,
 //! after a safe call none are, and of the stack nothing is; nor is the right tag after another was
-//! found wrong. And what is left of a state that was dropped.
+//! found wrong, nor are words after they were lent. And what is left of a state that was dropped.
 
 use super::tested::Tested;
 use super::*;
 use crate::hash::{self, Sealed};
-use crate::{Key, Sha1, Sha256, Unverified};
+use crate::{Bytes, Key, Sha1, Sha256, Supply, Unverified};
 use std::arch::asm;
 use std::mem::MaybeUninit;
 
@@ -413,6 +413,21 @@ fn verified_by_the_safe_call<H: Tested>() {
         assert!(!found.has_bytes_of(right.as_ref()));
         assert_eq!(found.count(key.shares()), 0);
     }
+}
+
+#[test]
+fn no_words_are_found_after_they_are_lent() {
+    let count = crate::and_words(SHARES_LIMIT).expect("a right count");
+    let words = fresh(count.words(), SUPPLY);
+    let bytes: Vec<u8> = words.iter().flat_map(|word| word.to_be_bytes()).collect();
+    let (mut supply, mut found) = (Supply::new(Bytes(&bytes[..])), Found::nothing());
+    Found::paint();
+    let lent = in_own_frame(|| supply.lend(count).is_ok());
+    found.look();
+    assert!(lent);
+    assert_eq!(found.left(), 0);
+    assert_eq!(found.count(&words), 0);
+    assert!(!found.has_bytes_of(&bytes));
 }
 
 #[test]
