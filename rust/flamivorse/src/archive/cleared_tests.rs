@@ -416,6 +416,26 @@ fn verified_by_the_safe_call<H: Tested>() {
 }
 
 #[test]
+fn no_chains_are_found_after_a_stream_is_copied() {
+    copied::<Sha1>();
+    copied::<Sha256>();
+}
+
+fn copied<H: Tested>() {
+    for n in COUNTS {
+        let key = Key::split_for::<H>(n, b"key", &fresh(16 * (n - 1), BLOCK)).expect("its words");
+        let count = key.start_words().expect("a right count");
+        let stream = key.start(&fresh(count.words(), SUPPLY)).expect("its words");
+        let mut found = Found::nothing();
+        Found::paint();
+        let copy = in_own_frame(|| stream.clone());
+        found.look();
+        assert_eq!(found.left(), 0);
+        assert_eq!(found.of_state::<H>(copy.state()), 0);
+    }
+}
+
+#[test]
 fn no_words_are_found_after_they_are_lent() {
     let count = crate::and_words(SHARES_LIMIT).expect("a right count");
     let words = fresh(count.words(), SUPPLY);
