@@ -82,8 +82,8 @@
 //!
 //! # Rust versions
 //!
-//! The crate builds with Rust 1.63 and cargo 1.65, which are Debian 12's; its tests and the command
-//! line build with Rust 1.85.
+//! The crate and the command line build with Rust 1.63 and cargo 1.65, which are Debian 12's; the tests
+//! with Rust 1.85.
 
 #![cfg_attr(not(feature = "std"), no_std)]
 #![deny(missing_docs)]
