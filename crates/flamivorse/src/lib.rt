@@ -22,14 +22,6 @@ use counts::refresh_words;
 use counts::short_words;
 use counts::split_words;
 use counts::start_words;
-use numbers::DONE;
-use numbers::answer;
-use numbers::one_input;
-use numbers::opening;
-use numbers::short_input;
-use numbers::splitting;
-use numbers::two_inputs;
-use numbers::widening;
 use rules::Answer;
 use rules::Chain;
 use rules::Compressed;
@@ -87,12 +79,7 @@ pub extern "C" fn flamivorse_split(
 ) -> Answer
     ensures { λ r. ⌜ splitCall n value (now (shares .entry)) (now (words .entry)) ≡ (r, now (shares .exit)) ⌝ }
 {
-    let need = split_words(n).drawn;
-    let number = splitting(n, shares.len(), need, words.len());
-    if number != DONE {
-        return answer(number, 0);
-    }
-    answer(DONE, shares::split_at(value, shares, words, 0))
+    share_calls::split(n, value, shares, words)
 }
 
 // The XOR of n shares.
@@ -100,17 +87,7 @@ pub extern "C" fn flamivorse_split(
 pub extern "C" fn flamivorse_open_xor(n: usize, shares: &[u32]) -> Opened
     ensures { λ r. ⌜ openXorCall n (now (shares .entry)) ≡ r ⌝ }
 {
-    let number = opening(n, shares.len());
-    if number != DONE {
-        return Opened {
-            number: number,
-            word: 0,
-        };
-    }
-    Opened {
-        number: DONE,
-        word: shares::open_xor(shares),
-    }
+    share_calls::open_xor(n, shares)
 }
 
 // The sum of n shares modulo 2^32.
@@ -118,17 +95,7 @@ pub extern "C" fn flamivorse_open_xor(n: usize, shares: &[u32]) -> Opened
 pub extern "C" fn flamivorse_open_sum(n: usize, shares: &[u32]) -> Opened
     ensures { λ r. ⌜ openSumCall 32 n (now (shares .entry)) ≡ r ⌝ }
 {
-    let number = opening(n, shares.len());
-    if number != DONE {
-        return Opened {
-            number: number,
-            word: 0,
-        };
-    }
-    Opened {
-        number: DONE,
-        word: shares::open_sum(shares),
-    }
+    share_calls::open_sum(n, shares)
 }
 
 // Fresh shares y of what x opens to.
@@ -136,13 +103,7 @@ pub extern "C" fn flamivorse_open_sum(n: usize, shares: &[u32]) -> Opened
 pub extern "C" fn flamivorse_refresh(n: usize, x: &[u32], y: &mut [u32], words: &[u32]) -> Answer
     ensures { λ r. ⌜ refreshCall n (now (x .entry)) (now (y .entry)) (now (words .entry)) ≡ (r, now (y .exit)) ⌝ }
 {
-    let need = refresh_words(n).drawn;
-    let number = one_input(n, x.len(), y.len(), need, words.len());
-    if number != DONE {
-        return answer(number, 0);
-    }
-    shares::copy(x, y);
-    answer(DONE, shares::refresh_at(n, y, words, 0))
+    share_calls::refresh(n, x, y, words)
 }
 
 // 2n shares y of what the n shares x open to.
@@ -150,12 +111,7 @@ pub extern "C" fn flamivorse_refresh(n: usize, x: &[u32], y: &mut [u32], words: 
 pub extern "C" fn flamivorse_expand(n: usize, x: &[u32], y: &mut [u32], words: &[u32]) -> Answer
     ensures { λ r. ⌜ expandCall n (now (x .entry)) (now (y .entry)) (now (words .entry)) ≡ (r, now (y .exit)) ⌝ }
 {
-    let need = expand_words(n).drawn;
-    let number = widening(n, x.len(), y.len(), need, words.len());
-    if number != DONE {
-        return answer(number, 0);
-    }
-    answer(DONE, shares::expand_at(x, y, words, 0))
+    share_calls::expand(n, x, y, words)
 }
 
 // Shares z of x AND y.
@@ -169,12 +125,7 @@ pub extern "C" fn flamivorse_and(
 ) -> Answer
     ensures { λ r. ⌜ andCall n (now (x .entry)) (now (y .entry)) (now (z .entry)) (now (words .entry)) ≡ (r, now (z .exit)) ⌝ }
 {
-    let need = and_words(n).drawn;
-    let number = two_inputs(n, x.len(), y.len(), z.len(), need, words.len());
-    if number != DONE {
-        return answer(number, 0);
-    }
-    answer(DONE, adder::and_at(x, y, z, words, 0))
+    share_calls::and(n, x, y, z, words)
 }
 
 // Shares z of x + y modulo 2^32.
@@ -188,12 +139,7 @@ pub extern "C" fn flamivorse_add(
 ) -> Answer
     ensures { λ r. ⌜ addCall 32 n (now (x .entry)) (now (y .entry)) (now (z .entry)) (now (words .entry)) ≡ (r, now (z .exit)) ⌝ }
 {
-    let need = add_words(n).drawn;
-    let number = two_inputs(n, x.len(), y.len(), z.len(), need, words.len());
-    if number != DONE {
-        return answer(number, 0);
-    }
-    answer(DONE, adder::add_at(x, y, z, words, 0))
+    share_calls::add(n, x, y, z, words)
 }
 
 // Boolean shares x of what the arithmetic shares a add up to.
@@ -201,12 +147,7 @@ pub extern "C" fn flamivorse_add(
 pub extern "C" fn flamivorse_a2b(n: usize, a: &[u32], x: &mut [u32], words: &[u32]) -> Answer
     ensures { λ r. ⌜ a2bCall 32 n (now (a .entry)) (now (x .entry)) (now (words .entry)) ≡ (r, now (x .exit)) ⌝ }
 {
-    let need = a2b_words(n).drawn;
-    let number = one_input(n, a.len(), x.len(), need, words.len());
-    if number != DONE {
-        return answer(number, 0);
-    }
-    answer(DONE, convert::to_bool(a, x, words, 0))
+    share_calls::a2b(n, a, x, words)
 }
 
 // Arithmetic shares a of what the Boolean shares x open to.
@@ -214,12 +155,7 @@ pub extern "C" fn flamivorse_a2b(n: usize, a: &[u32], x: &mut [u32], words: &[u3
 pub extern "C" fn flamivorse_b2a(n: usize, x: &[u32], a: &mut [u32], words: &[u32]) -> Answer
     ensures { λ r. ⌜ b2aCall 32 n (now (x .entry)) (now (a .entry)) (now (words .entry)) ≡ (r, now (a .exit)) ⌝ }
 {
-    let need = b2a_words(n).drawn;
-    let number = one_input(n, x.len(), a.len(), need, words.len());
-    if number != DONE {
-        return answer(number, 0);
-    }
-    answer(DONE, convert::to_arith(x, a, words, 0))
+    share_calls::b2a(n, x, a, words)
 }
 
 // The same by the short conversion, which draws fewer words.
@@ -227,12 +163,7 @@ pub extern "C" fn flamivorse_b2a(n: usize, x: &[u32], a: &mut [u32], words: &[u3
 pub extern "C" fn flamivorse_b2a_short(n: usize, x: &[u32], a: &mut [u32], words: &[u32]) -> Answer
     ensures { λ r. ⌜ b2aShortCall 32 n (now (x .entry)) (now (a .entry)) (now (words .entry)) ≡ (r, now (a .exit)) ⌝ }
 {
-    let need = short_words(n).drawn;
-    let number = short_input(n, x.len(), a.len(), need, words.len());
-    if number != DONE {
-        return answer(number, 0);
-    }
-    answer(DONE, short::to_arith_short(x, a, words, 0))
+    share_calls::b2a_short(n, x, a, words)
 }
 
 // ---- SHA-1 and HMAC

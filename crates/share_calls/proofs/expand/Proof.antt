@@ -3,8 +3,8 @@ use Prim.Native.Nat.{_*_}
 use borrow.Author.Needs.{needs}
 use Rattle.rules.proofs.Calls.{refused, done}
 use Rattle.rules.proofs.Tested.{one-ready, expand-needs}
-use Rattle.flamivorse.proofs.flamivorse_expand.Statement.{statement}
-use Rattle.flamivorse.proofs.flamivorse_expand.Tie as tie
+use Rattle.share_calls.proofs.expand.Statement.{statement}
+use Rattle.share_calls.proofs.expand.Tie as tie
 
 expand-at-requires : tie.Need-expand-at-requires
 expand-at-requires c κs =
@@ -12,8 +12,8 @@ expand-at-requires c κs =
     let p = one-ready (λ n. n) (λ n. 2 * n) told (c .before .before .widening .ensures) (c .before .if1 .left) in
     search needs
 
-pub flamivorse-expand-spec : {M : Type 1} → statement M
-flamivorse-expand-spec =
+pub expand-spec : {M : Type 1} → statement M
+expand-spec =
     tie.close
     (tie.spec (λ c κs. search needs) (λ c κs. search needs) (λ c κs. search needs)
     (λ c. search (refused, expand-needs)) expand-at-requires (λ c κs. search needs) (λ c. search needs)

@@ -3,8 +3,8 @@ use borrow.Author.Needs.{needs}
 use Rattle.rules.specs.Counts.{refreshDraws, addDraws, toArithDraws}
 use Rattle.rules.proofs.Calls.{refused, done}
 use Rattle.rules.proofs.Tested.{one-ready, toArith-needs}
-use Rattle.flamivorse.proofs.flamivorse_b2a.Statement.{statement}
-use Rattle.flamivorse.proofs.flamivorse_b2a.Tie as tie
+use Rattle.share_calls.proofs.b2a.Statement.{statement}
+use Rattle.share_calls.proofs.b2a.Tie as tie
 
 to-arith-requires : tie.Need-to-arith-requires
 to-arith-requires c κs =
@@ -13,8 +13,8 @@ to-arith-requires c κs =
     let p = one-ready d (λ n. n) told (c .before .before .one-input .ensures) (c .before .if1 .left) in
     search needs
 
-pub flamivorse-b2a-spec : {M : Type 1} → statement M
-flamivorse-b2a-spec =
+pub b2a-spec : {M : Type 1} → statement M
+b2a-spec =
     tie.close
     (tie.spec (λ c κs. search needs) (λ c κs. search needs) (λ c κs. search needs)
     (λ c. search (refused, toArith-needs)) to-arith-requires (λ c κs. search needs) (λ c. search needs)

@@ -2,8 +2,8 @@
 use borrow.Author.Needs.{needs}
 use Rattle.rules.proofs.Calls.{refused, done}
 use Rattle.rules.proofs.Tested.{split-ready, split-needs, split-sized}
-use Rattle.flamivorse.proofs.flamivorse_split.Statement.{statement}
-use Rattle.flamivorse.proofs.flamivorse_split.Tie as tie
+use Rattle.share_calls.proofs.split.Statement.{statement}
+use Rattle.share_calls.proofs.split.Tie as tie
 
 split-at-requires : tie.Need-split-at-requires
 split-at-requires c κs =
@@ -11,8 +11,8 @@ split-at-requires c κs =
     let p = split-ready told (c .before .before .splitting .ensures) (c .before .if1 .left) in
     search needs
 
-pub flamivorse-split-spec : {M : Type 1} → statement M
-flamivorse-split-spec =
+pub split-spec : {M : Type 1} → statement M
+split-spec =
     tie.close
     (tie.spec (λ c κs. search needs) (λ c κs. search needs) (λ c κs. search needs)
     (λ c. search (refused, split-needs)) split-at-requires (λ c κs. search needs) (λ c. search needs)

@@ -5,8 +5,8 @@ use Rattle.rules.specs.Counts.{refreshDraws}
 use Rattle.rules.proofs.Calls.{refused, done}
 use Rattle.rules.proofs.Loops.{and-room}
 use Rattle.rules.proofs.Tested.{one-ready, refresh-needs, refresh-copied}
-use Rattle.flamivorse.proofs.flamivorse_refresh.Statement.{statement}
-use Rattle.flamivorse.proofs.flamivorse_refresh.Tie as tie
+use Rattle.share_calls.proofs.refresh.Statement.{statement}
+use Rattle.share_calls.proofs.refresh.Tie as tie
 
 copy-requires : tie.Need-copy-requires
 copy-requires c κs =
@@ -21,8 +21,8 @@ refresh-at-requires c κs =
     let p = one-ready refreshDraws (λ n. n) told (s .before .before .one-input .ensures) (s .before .if1 .left) in
     (search needs, and-room _ _ _ (sym (p .0)) _ (search needs))
 
-pub flamivorse-refresh-spec : {M : Type 1} → statement M
-flamivorse-refresh-spec =
+pub refresh-spec : {M : Type 1} → statement M
+refresh-spec =
     tie.close
     (tie.spec (λ c κs. search needs) (λ c κs. search needs) (λ c κs. search needs)
     (λ c. search (refused, refresh-needs)) copy-requires refresh-at-requires (λ c κs. search needs)
