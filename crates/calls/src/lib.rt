@@ -13,14 +13,14 @@ use counts::key_words;
 use counts::start_words;
 use numbers::DONE;
 use numbers::answer;
-use numbers::compressing;
-use numbers::finishing;
-use numbers::key_splitting;
-use numbers::tagging;
 use rules::Answer;
 use rules::Fed;
 use rules::State;
 use rules::Streamed;
+use text_numbers::compressing;
+use text_numbers::finishing;
+use text_numbers::key_splitting;
+use text_numbers::tagging;
 
 // A key into shares.
 pub fn split_key(code: u32, n: usize, key: &[u8], shares: &mut [u32], words: &[u32]) -> Answer

@@ -19,11 +19,8 @@ use numbers::TOO_LONG;
 use numbers::WRONG_COUNT;
 use numbers::answer;
 use numbers::both;
-use numbers::fitness;
-use numbers::growth;
 use numbers::is_allowed;
 use numbers::is_power;
-use numbers::key_fitness;
 use numbers::tested;
 use rules::Answer;
 use rules::BLOCK_BYTES;
@@ -32,6 +29,9 @@ use rules::LENGTH_BYTES;
 use rules::LONGEST_MESSAGE;
 use rules::SHA1;
 use rules::WORD_BYTES;
+use text_numbers::fitness;
+use text_numbers::growth;
+use text_numbers::key_fitness;
 use width::BITS;
 
 // W(n), from n = 0 on: what arithmetic to Boolean draws.

@@ -159,7 +159,7 @@ pub fn feed(code: u32, state: State, piece: &[u8], words: &[u32]) -> Feeding
         state.hash,
         piece.len(),
     );
-    let number = numbers::feeding(need, words.len());
+    let number = text_numbers::feeding(need, words.len());
     if number != DONE {
         return Feeding {
             fed: Fed::Refused(number),

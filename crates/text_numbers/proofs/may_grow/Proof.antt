@@ -1,9 +1,9 @@
 -- over the limit already, or not over it with the piece
 use native.Mathlib.Omega.{arith}
 use Rattle.rules.specs.Numbers.{longestMessage}
-use Rattle.numbers.proofs.Tests.{grown, not-grown}
-use Rattle.numbers.proofs.may_grow.Statement.{statement}
-use Rattle.numbers.proofs.may_grow.Tie as tie
+use Rattle.text_numbers.proofs.Texts.{grown, not-grown}
+use Rattle.text_numbers.proofs.may_grow.Statement.{statement}
+use Rattle.text_numbers.proofs.may_grow.Tie as tie
 
 returns : tie.Need-returns
 returns c = not-grown (c .before .args .bytes) (c .before .args .piece) longestMessage (omega (arith, c .if1 .taken))

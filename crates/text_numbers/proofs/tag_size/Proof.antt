@@ -1,8 +1,8 @@
 -- 20, or 32
 use borrow.Author.Needs.{needs}
-use Rattle.numbers.proofs.Tests.{sha1-tag, sha256-tag}
-use Rattle.numbers.proofs.tag_size.Statement.{statement}
-use Rattle.numbers.proofs.tag_size.Tie as tie
+use Rattle.text_numbers.proofs.Texts.{sha1-tag, sha256-tag}
+use Rattle.text_numbers.proofs.tag_size.Statement.{statement}
+use Rattle.text_numbers.proofs.tag_size.Tie as tie
 
 pub tag-size-spec : {M : Type 1} → statement M
 tag-size-spec =
