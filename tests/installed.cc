@@ -36,7 +36,8 @@ static bool tags_right(std::size_t n)
                                  words.size()).number == FLAMIVORSE_DONE;
 
     words = fresh(flamivorse_hmac_sha1_start_words(n));
-    flamivorse_streamed stream = flamivorse_hmac_sha1_start(n, shares.data(), shares.size(), words.data(), words.size());
+    flamivorse_streamed stream =
+        flamivorse_hmac_sha1_start(n, shares.data(), shares.size(), words.data(), words.size());
     done &= stream.number == FLAMIVORSE_DONE && stream.state.hash == FLAMIVORSE_SHA1;
     stream = flamivorse_hmac_sha1_feed(stream.state, bytes, length, nullptr, 0);    // it fills no block
     stream = flamivorse_hmac_sha1_feed(stream.state, nullptr, 0, nullptr, 0);

@@ -73,7 +73,8 @@ static void print_long_call(const char *name, by_length *query, size_t length)
 
 int main(void)
 {
-    printf("| Call | 1 share | 2 shares | 3 shares | 4 shares | 8 shares | 16 shares |\n|---|---|---|---|---|---|---|\n");
+    printf("| Call | 1 share | 2 shares | 3 shares | 4 shares | 8 shares | 16 shares |\n");
+    printf("|---|---|---|---|---|---|---|\n");
     print_short_calls();
     for (size_t i = 0; i < sizeof long_calls / sizeof *long_calls; i++)
         for (size_t k = 0; k < 5 && long_calls[i].lengths[k] != 0; k++)
