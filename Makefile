@@ -27,7 +27,7 @@ installed = lib/libflamivorse.a include/flamivorse.h lib/pkgconfig/flamivorse.pc
 .PHONY: all lib check install uninstall release
 all: $(library) $(program)
 
-lib: $(library)
+lib: $(out)/libflamivorse.a
 
 check: all
 	tests/c
