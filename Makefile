@@ -61,6 +61,7 @@ $(out)/libflamivorse.a: $(proved) $(copy) archive/clear.s Makefile
 
 # Folders are named as well, since a file that is gone changes them.
 $(proved): crates.txt $(shell find crates -not -path '*/must-fail*')
+	rt check $$(sed -n 's/^flamivorse: //p' crates.txt)    # side by side; the next line would go one by one
 	rt staticlib flamivorse
 
 $(program): $(library) rust/Cargo.toml $(shell find rust/cli rust/flamivorse)
