@@ -1,6 +1,8 @@
 // AND and addition of shares, by loops over slices: the reference, for any count. The form of an addition is chosen
 // here: few shares by words of their own (crate `few`), eight by the same loops with a constant count, which the
 // compiler unrolls, any other by the reference. Each function is proved to be its rule, word for word of the supply.
+#![tactic(auto)]
+
 ghost use Rattle.std.specs.Prelude.{◌≡◌, ◌+◌, ◌-◌, ◌*◌, ◌≤◌, ◌<◌, length};
 ghost use Rattle.std.specs.Int.Bits.{bit_and};
 ghost use Rattle.rules.specs.Numbers.{largest};

@@ -1,5 +1,7 @@
 // The calls over a hash, by its code: a key split, one compression, a tag in one call and in pieces. Each takes any
 // arguments and says its whole outcome.
+#![tactic(auto)]
+
 ghost use Rattle.std.specs.Prelude.{◌≡◌, length};
 ghost use Rattle.rules.specs.Hmac.{chain_room};
 ghost use Rattle.rules.specs.Calls.{split_key_call, compress_call, hmac_call};

@@ -2,6 +2,8 @@
 // arguments name: for each case its number, its tag, and whether it is the file's digest. The digest's length says
 // which hash it is: 20 bytes are SHA-1's, 32 are SHA-256's, and 16 are the first ones of SHA-256's. A line that is no
 // case is told with its number. No random words: at one share none are drawn.
+#![tactic(auto)]
+
 ghost use Rattle.std.specs.Prelude.{◌≡◌, ◌≤◌, length};
 
 use lines::{FINE, TOO_SHORT};

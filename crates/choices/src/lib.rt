@@ -1,4 +1,6 @@
 // Ch and Maj of words in n shares, with one AND each.
+#![tactic(auto)]
+
 ghost use Rattle.std.specs.Prelude.{◌≡◌, [], ◌∷◌, ◌+◌, ◌≤◌, length};
 ghost use Rattle.rules.specs.Sha1.{blended, chosen};
 ghost use Rattle.rules.specs.Counts.{and_draws};

@@ -1,1 +1,2 @@
 // The claims, on one page: theorems about the calls, and no code.
+#![tactic(auto)]

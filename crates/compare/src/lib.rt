@@ -1,4 +1,6 @@
 // Two texts compared in a time and by a path that their lengths alone decide, so that nobody finds a tag byte by byte.
+#![tactic(auto)]
+
 ghost use Rattle.std.specs.Prelude.{◌≡◌, eqb, length};
 ghost use Rattle.rules.specs.Numbers.{choose};
 ghost use Rattle.rules.specs.Calls.{same, same_tag};

@@ -1,5 +1,7 @@
 // The queries: the number, and how many words a call draws, 0 where it is refused. And what a state counts.
 // No query has a precondition.
+#![tactic(auto)]
+
 ghost use Rattle.std.specs.Prelude.{◌≡◌, true, [], ◌∷◌, ◌+◌, ◌-◌, ◌*◌, ◌≤◌, ◌<◌, leb};
 ghost use Rattle.width.specs.Width.{bits};
 ghost use Rattle.rules.specs.Numbers.{largest, longest_key, longest_message, choose, power, allowed, test, first};

@@ -1,5 +1,7 @@
 // A piece of a message fed to a state: its full blocks into the inner chain, the rest into the tail.
 // The calls' tests go by the counts and the mark of a state: its shares are copied for what needs them alone.
+#![tactic(auto)]
+
 ghost use Rattle.std.specs.Prelude.{◌≡◌, ◌++◌, ◌+◌, ◌*◌, ◌/◌, ◌≤◌, ◌<◌, length, get_or, take, drop};
 ghost use Rattle.rules.specs.Numbers.{largest, longest_message};
 ghost use Rattle.rules.specs.Hash.{words_of, filled};

@@ -1,5 +1,7 @@
 // Addition of 1, 2 or 4 shares, each in a word of its own: the compiler keeps them in registers, and never two in one.
 // One code for the three counts; what stands past the first n words of a `Few` is not looked at.
+#![tactic(auto)]
+
 ghost use Rattle.std.specs.Prelude.{◌≡◌, true, ℕ, ◌+◌, ◌-◌, ◌*◌, ◌≤◌, ◌<◌, length, replicate};
 ghost use Rattle.std.specs.Int.Bits.{bit_xor, bit_and};
 ghost use Rattle.words.specs.Word.{double};

@@ -1,5 +1,7 @@
 // The calls that users make. Each takes any arguments at all and says its whole outcome: the answer and every lent buffer
 // afterwards.
+#![tactic(auto)]
+
 ghost use Rattle.std.specs.Prelude.{◌≡◌};
 ghost use Rattle.rules.specs.Calls.{b2a_two, a2b_two, b2a_record_call, a2b_record_call, split_call, open_xor_call, open_sum_call};
 ghost use Rattle.rules.specs.Calls.{refresh_call, expand_call, and_call, add_call, a2b_call, b2a_call, b2a_short_call};

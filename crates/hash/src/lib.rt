@@ -1,5 +1,7 @@
 // The hashes that HMAC is over, by their codes: how many words a chain has, the one that starts a hash, and the
 // compression. The one crate that says which there are.
+#![tactic(auto)]
+
 ghost use Rattle.std.specs.Prelude.{◌≡◌, ◌++◌, ◌+◌, ◌-◌, ◌*◌, ◌≤◌, ◌<◌, length, get_or, set, take, replicate};
 ghost use Rattle.std.specs.Int.Bits.{bit_xor};
 ghost use Rattle.rules.specs.Numbers.{largest};
@@ -111,7 +113,7 @@ fn compress_at(
         × (length z.new ≡ chain_words (standard code) * n) × (result ≡ at + (hash code).draws n) }
 {
     if code == SHA1 {
-        return sha1::compress_at(n, block, z, words, at);
+        return masked_sha1::compress_at(n, block, z, words, at);
     }
     sha256::compress_at(n, block, z, words, at)
 }

@@ -1,5 +1,7 @@
 // Masked HMAC: the key blocks, the message, the digest block, and the tag. Each function is proved to be its rule, over
 // the hash of crate `hash`.
+#![tactic(auto)]
+
 ghost use Rattle.std.specs.Prelude.{◌≡◌, ◌++◌, ◌+◌, ◌-◌, ◌*◌, ◌%◌, ◌≤◌, ◌<◌, length, take, drop, replicate};
 ghost use Rattle.rules.specs.Numbers.{largest};
 ghost use Rattle.rules.specs.Hash.{chain_words, digest_bytes, ending};

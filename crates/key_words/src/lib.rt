@@ -1,5 +1,7 @@
 // A key's words in shares: split one after the other, of each the last share kept, and put together again by blocks. No
 // word of a key waits on the stack: its mask is ready when it is read.
+#![tactic(auto)]
+
 ghost use Rattle.std.specs.Prelude.{◌≡◌, [], ◌∷◌, ◌++◌, ◌+◌, ◌-◌, ◌*◌, ◌≤◌, ◌<◌, length, get_or, take, drop};
 ghost use Rattle.rules.specs.Supply.{next, opened};
 ghost use Rattle.rules.specs.Numbers.{largest, longest_key};

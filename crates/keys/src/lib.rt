@@ -1,4 +1,6 @@
 // Keys in shares: a key of at most one block, and a longer one, which is hashed in shares.
+#![tactic(auto)]
+
 ghost use Rattle.std.specs.Prelude.{◌≡◌, ◌+◌, ◌-◌, ◌*◌, ◌/◌, ◌≤◌, ◌<◌, length, take, drop};
 ghost use Rattle.rules.specs.Numbers.{largest, longest_key};
 ghost use Rattle.rules.specs.Hash.{filled};

@@ -1,5 +1,7 @@
 // Words in n shares each, one after the other: share i of word w stands at place w·n + i.
 // Taking one of them, a ring of them, and what SHA-1 does with whole words.
+#![tactic(auto)]
+
 ghost use Rattle.std.specs.Prelude.{◌≡◌, [], ◌∷◌, ◌+◌, ◌*◌, ◌%◌, ◌≤◌, ◌<◌, length, replicate};
 ghost use Rattle.std.specs.Int.Bits.{bit_xor};
 ghost use Rattle.std.proofs.lemmas.List.Edits.{sets};

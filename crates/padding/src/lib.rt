@@ -1,5 +1,7 @@
 // What is hashed after so many bytes that went into the chain already: a text with its padding, byte by byte, word by word and
 // block by block, as public values. SHA-1 and SHA-256 have the same padding; it is said of SHA-1.
+#![tactic(auto)]
+
 ghost use Rattle.std.specs.Prelude.{◌≡◌, ◌+◌, ◌*◌, ◌/◌, ◌%◌, ◌^◌, ◌<◌, length, get_or, take, drop, replicate};
 ghost use Rattle.rules.specs.Hash.{ended, ending};
 ghost use Rattle.rules.specs.Standard.{SHA1};

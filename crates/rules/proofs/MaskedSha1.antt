@@ -66,7 +66,7 @@ module _ {k n d : ℕ} {adder : Adder} {Fits : ℕ → Type 0} {Good : List ℕ 
       (back 14 (omega arith) (omega arith)) in
       let x = keeps.xors three (back 16 (omega arith) (omega arith)) in
       let e : m + suc p ≡ m + 1 + p = omega arith in
-      rw e (schedule_of_lem p (omega arith) (join g (one (keeps.turns 1 (λ big. omega arith) x))))
+      rw e (schedule_of_lem {m = m + 1} p (omega arith) (join g (one (keeps.turns 1 (λ big. omega arith) x))))
 
   pub compress_rule : {h H block B : List ℕ} → Goods Good 5 h H → Goods Good 16 block B
       → Rule (compression_of d n) (λ z. Goods Good 5 z (compress_of k H B)) (compress k adder n h block)

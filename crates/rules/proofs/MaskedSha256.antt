@@ -79,7 +79,7 @@ module _ {k n d : ℕ} {adder : Adder} {Fits : ℕ → Type 0} {Good : List ℕ 
   schedule_rule {m} (suc p) h g =
       let e : m + suc p ≡ m + 1 + p = omega arith in
       rw e
-      (counted (bind (following_rule h g) (λ x gx. schedule_rule p (omega arith) (join g (one gx))))
+      (counted (bind (following_rule h g) (λ x gx. schedule_rule {m = m + 1} p (omega arith) (join g (one gx))))
       (omega (arith, suc-mul p (3 * d))))
 
   -- ---- a round

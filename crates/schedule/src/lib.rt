@@ -1,5 +1,7 @@
 // The schedule of masked SHA-1 in a window of sixteen words in n shares each: a ring, in which the next word of the
 // schedule takes the place of the one that is no longer needed.
+#![tactic(auto)]
+
 ghost use Rattle.std.specs.Prelude.{◌≡◌, [], ◌∷◌, ◌++◌, ◌+◌, ◌*◌, ◌%◌, ◌≤◌, ◌<◌, length, drop};
 ghost use Rattle.std.specs.Int.Bits.{bit_xor};
 ghost use Rattle.rules.specs.Numbers.{largest};

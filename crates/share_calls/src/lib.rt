@@ -1,5 +1,7 @@
 // The calls on shares, each with its whole outcome: it asks how many words it draws and which number it gives, and then
 // calls the layer below. `flamivorse` exports them.
+#![tactic(auto)]
+
 ghost use Rattle.std.specs.Prelude.{◌≡◌};
 ghost use Rattle.rules.specs.Calls.{split_call, open_xor_call, open_sum_call};
 ghost use Rattle.rules.specs.Calls.{refresh_call, expand_call, and_call, add_call, a2b_call, b2a_call, b2a_short_call};

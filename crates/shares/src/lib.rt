@@ -1,5 +1,7 @@
 // Shares of a word: copying, opening, splitting, refresh and expand. n is the length of the slices.
 // Each function is proved to be its rule, word for word of the supply.
+#![tactic(auto)]
+
 ghost use Rattle.std.specs.Prelude.{◌≡◌, ◌+◌, ◌-◌, ◌*◌, ◌≤◌, ◌<◌, length};
 ghost use Rattle.std.specs.Int.Bits.{bit_xor};
 ghost use Rattle.std.proofs.lemmas.List.Edits.{sets};

@@ -1,5 +1,7 @@
 // The short conversion: Boolean to arithmetic without a carry loop.
 // Each function is proved to be its rule, word for word of the supply.
+#![tactic(auto)]
+
 ghost use Rattle.std.specs.Prelude.{◌≡◌, [], ◌∷◌, ◌++◌, map, ◌+◌, ◌-◌, ◌*◌, ◌≤◌, ◌<◌, length, take, drop};
 ghost use Rattle.words.specs.Word.{plus};
 ghost use Rattle.rules.specs.Goubin.{psi};

@@ -1,4 +1,6 @@
 // Σ and σ of SHA-256 on words of n shares, share by share, by how far they rotate to the right.
+#![tactic(auto)]
+
 ghost use Rattle.std.specs.Prelude.{◌≡◌, map, length};
 ghost use Rattle.rules.specs.Sha256.{turns, falls};
 ghost use Rattle.sigmas.specs.Places.{Places};

@@ -1,4 +1,6 @@
 // States: made anew, of zeros, after their tag was handed out; and which of their bytes wait.
+#![tactic(auto)]
+
 ghost use Rattle.std.specs.Prelude.{◌≡◌, ◌%◌, ◌≤◌, ◌<◌, length, take};
 ghost use Rattle.rules.specs.Numbers.{largest, longest_message};
 ghost use Rattle.rules.specs.Hash.{filled};

@@ -1,4 +1,6 @@
 // A tag while the message comes in pieces: start and finish, each proved to be its rule, by the steps of `hmac`.
+#![tactic(auto)]
+
 ghost use Rattle.std.specs.Prelude.{◌≡◌, ◌+◌, ◌*◌, ◌≤◌, ◌<◌, length};
 ghost use Rattle.rules.specs.Numbers.{largest, longest_message};
 ghost use Rattle.rules.specs.Hash.{digest_bytes};

@@ -1,4 +1,6 @@
 // A tag in shares, opened: the one place where HMAC hands something out in the clear.
+#![tactic(auto)]
+
 ghost use Rattle.std.specs.Prelude.{◌≡◌, ◌++◌, ◌+◌, ◌*◌, ◌≤◌, length, take};
 ghost use Rattle.rules.specs.Numbers.{largest};
 ghost use Rattle.rules.specs.Hash.{digest_bytes, all_bytes, bytes_of};

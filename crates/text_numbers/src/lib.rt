@@ -1,5 +1,7 @@
 // The tests of each kind of call on keys, messages and states, in order, by their lengths.
 // No function here has a precondition.
+#![tactic(auto)]
+
 ghost use Rattle.std.specs.Prelude.{◌≡◌, [], ◌∷◌, ◌+◌, ◌*◌, eqb, leb};
 ghost use Rattle.rules.specs.Numbers.{longest_key, longest_message, allowed, test, first};
 ghost use Rattle.rules.specs.Hash.{digest_bytes};

@@ -1,1 +1,2 @@
 // Words of k bits: definitions and laws, and no code.
+#![tactic(auto)]

@@ -1,8 +1,8 @@
 -- the rounds and five sums, one after the other, are the rule's compression
 use borrow.Author.Rules.{rules}
-use Rattle.sha1.proofs.Parts.{compress_made, rounds_room, sums_room, compress_after}
-use Rattle.sha1.proofs.compress_at.Statement.{statement}
-use Rattle.sha1.proofs.compress_at.Tie as tie
+use Rattle.masked_sha1.proofs.Parts.{compress_made, rounds_room, sums_room, compress_after}
+use Rattle.masked_sha1.proofs.compress_at.Statement.{statement}
+use Rattle.masked_sha1.proofs.compress_at.Tie as tie
 
 rounds_at_requires : tie.Need-rounds-at-requires
 rounds_at_requires c κs = (search rules, search rules, search rules, search rules, search rounds_room)
