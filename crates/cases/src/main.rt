@@ -22,7 +22,7 @@ const SHA256_TAG: usize = SHA256_CHAIN_WORDS * WORD_BYTES;
 const SHORT_TAG: usize = 16;
 
 // How many cases there are, and how many of them are right.
-#[derive(Drop)]
+#[derive(Clone, Copy)]
 struct Tally {
     cases: u64,
     right: u64,

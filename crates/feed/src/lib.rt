@@ -133,7 +133,7 @@ fn feed_at(code: u32, state: State, piece: &[u8], words: &[u32], at: usize) -> M
 }
 
 // What became of a piece, and the state beside it.
-#[derive(Drop)]
+#[derive(Clone, Copy)]
 pub struct Feeding {
     pub fed: Fed,
     pub state: State,

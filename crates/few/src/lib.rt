@@ -17,7 +17,7 @@ use width::{BITS, Word};
 // The turns of the carry loop: one less than the width.
 pub const TURNS: usize = BITS - 1;
 
-#[derive(Drop)]
+#[derive(Clone, Copy)]
 pub struct Few {
     pub s0: Word,
     pub s1: Word,
@@ -26,14 +26,14 @@ pub struct Few {
 }
 
 // Shares that were made, and the place after the words drawn.
-#[derive(Drop)]
+#[derive(Clone, Copy)]
 pub struct Run {
     pub shares: Few,
     pub at: usize,
 }
 
 // Shares i and j after their pair's word, and the place after it.
-#[derive(Drop)]
+#[derive(Clone, Copy)]
 struct Pair {
     i: Word,
     j: Word,

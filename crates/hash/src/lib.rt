@@ -121,7 +121,7 @@ fn compress_at(
 // ---- chains as a state keeps them
 
 // A chain, and the place after the words that went into it.
-#[derive(Drop)]
+#[derive(Clone, Copy)]
 pub struct Stepped {
     pub chain: Sha256Chain,
     pub at: usize,

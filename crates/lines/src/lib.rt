@@ -20,7 +20,7 @@ pub const TOO_LONG: u8 = 4;
 pub const TOO_SHORT: u8 = 5;
 
 // A field in hex that was read: what is wrong with it, and how many bytes it has.
-#[derive(Drop)]
+#[derive(Clone, Copy)]
 pub struct Bytes {
     pub fault: u8,
     pub count: usize,

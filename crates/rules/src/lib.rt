@@ -40,7 +40,7 @@ pub const SHA256_CHAIN: usize = SHA256_CHAIN_WORDS * LARGEST;
 
 // What a call on shares hands back: the number of section 3, and how many words it drew.
 #[repr(C)]
-#[derive(Drop)]
+#[derive(Clone, Copy)]
 pub struct Answer {
     pub number: u32,
     pub drawn: usize,
@@ -48,7 +48,7 @@ pub struct Answer {
 
 // What an opening hands back: the number, and the word.
 #[repr(C)]
-#[derive(Drop)]
+#[derive(Clone, Copy)]
 pub struct Opened {
     pub number: u32,
     pub word: u32,
@@ -56,14 +56,14 @@ pub struct Opened {
 
 // The masked chain value of SHA-1: one record of 80 words, of which 5n are used.
 #[repr(C)]
-#[derive(Drop)]
+#[derive(Clone, Copy)]
 pub struct Chain {
     pub shares: [u32; CHAIN],
 }
 
 // What a compression of SHA-1 hands back: the number, how many words it drew, and the new chain.
 #[repr(C)]
-#[derive(Drop)]
+#[derive(Clone, Copy)]
 pub struct Compressed {
     pub number: u32,
     pub drawn: usize,
@@ -72,14 +72,14 @@ pub struct Compressed {
 
 // The masked chain value of SHA-256: 128 words, of which 8n are used. A state keeps SHA-1's in it too, and uses 5n.
 #[repr(C)]
-#[derive(Drop)]
+#[derive(Clone, Copy)]
 pub struct Sha256Chain {
     pub shares: [u32; SHA256_CHAIN],
 }
 
 // What a compression of SHA-256 hands back.
 #[repr(C)]
-#[derive(Drop)]
+#[derive(Clone, Copy)]
 pub struct Sha256Compressed {
     pub number: u32,
     pub drawn: usize,
@@ -95,7 +95,7 @@ pub const SHA256: u32 = 1;
 // start and feeds drew for them, a mark that is not 0 once the tag was handed out, the hash, the chains after the inner
 // and after the outer key block, and the bytes of the block that is not yet full, the first `bytes` mod 64 of `tail`.
 #[repr(C)]
-#[derive(Drop)]
+#[derive(Clone, Copy)]
 pub struct State {
     pub n: usize,
     pub bytes: usize,
@@ -109,7 +109,7 @@ pub struct State {
 
 // What start, feed and finish hand back: the number, how many words were drawn, and the state.
 #[repr(C)]
-#[derive(Drop)]
+#[derive(Clone, Copy)]
 pub struct Streamed {
     pub number: u32,
     pub drawn: usize,
@@ -117,7 +117,7 @@ pub struct Streamed {
 }
 
 // What became of a piece: taken, with how many words were drawn; or refused, with the number.
-#[derive(Drop)]
+#[derive(Clone, Copy)]
 pub enum Fed {
     Taken(usize),
     Refused(u32),

@@ -93,7 +93,7 @@ pub fn waiting(tail: &[u8], bytes: usize) -> &[u8]
 }
 
 // A state, and the place after the words that went into it.
-#[derive(Drop)]
+#[derive(Clone, Copy)]
 pub struct Moved {
     pub state: State,
     pub at: usize,
