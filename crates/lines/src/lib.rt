@@ -4,7 +4,8 @@
 ghost use Rattle.std.specs.Prelude.{◌≡◌, ◌+◌, ◌*◌, ◌≤◌, ◌<◌, length};
 ghost use Rattle.io.specs.Counts.{IsPrefixLen};
 
-use libc::STDOUT_FILENO;
+// The descriptor of standard output.
+const STDOUT: i32 = 1;
 
 // What may be wrong with a field in hex.
 pub const FINE: u8 = 0;
@@ -172,7 +173,7 @@ pub fn line_end(text: &[u8], from: usize) -> usize
 
 // Writes to standard output.
 pub fn write(text: &[u8]) {
-    io::write_all(STDOUT_FILENO, text);
+    io::write_all(STDOUT, text);
 }
 
 // A byte as a wider number: that an argument fits is known, and of what is read in a loop it would have to be proved.
@@ -184,7 +185,7 @@ fn wide(b: u8) -> u64 {
 fn write_hex(bytes: &[u8]) {
     let mut i = 0;
     while i < bytes.len() {
-        io::print_hex(STDOUT_FILENO, wide(bytes[i]), 2);
+        io::print_hex(STDOUT, wide(bytes[i]), 2);
         i += 1;
     }
 }
@@ -192,7 +193,7 @@ fn write_hex(bytes: &[u8]) {
 // Starts to tell what is wrong with a line.
 fn write_place(line: u64) {
     write(b"line ");
-    io::print_decimal(STDOUT_FILENO, line);
+    io::print_decimal(STDOUT, line);
     write(b": ");
 }
 
@@ -226,7 +227,7 @@ pub fn complain_of(line: u64, name: &[u8], fault: u8, most: usize) -> bool {
     } else {
         write(b" has fewer than ");
     }
-    io::print_decimal(STDOUT_FILENO, most as u64);
+    io::print_decimal(STDOUT, most as u64);
     write(b" bytes\n");
     false
 }
@@ -251,8 +252,8 @@ pub fn write_tally(right: u64, cases: u64) {
         write(b"the file has no cases\n");
         return;
     }
-    io::print_decimal(STDOUT_FILENO, right);
+    io::print_decimal(STDOUT, right);
     write(b" of ");
-    io::print_decimal(STDOUT_FILENO, cases);
+    io::print_decimal(STDOUT, cases);
     write(b" ok\n");
 }
