@@ -10,6 +10,13 @@ use lines::{FINE, TOO_SHORT};
 use rules::{
     BLOCK_WORDS, CHAIN_WORDS, LONGEST_KEY, LONGEST_MESSAGE, SHA256_CHAIN_WORDS, WORD_BYTES,
 };
+use std::fs::File;
+use std::io::Read;
+use std::rt::Files;
+use std::{env, io};
+
+// The longest file that is run, in bytes.
+const LONGEST_FILE: u64 = 65536;
 
 // The longest line that is read as a case, in bytes.
 const LONGEST_LINE: usize = 11000;
@@ -173,41 +180,34 @@ fn run_cases(text: &[u8]) {
     lines::write_tally(tally.right, tally.cases);
 }
 
-// Reads an open file to its end, and runs it.
-fn run_file(name: &[u8], file: i32) {
-    let mut text = io::large_buffer();
-    let end = io::read_full(file, &mut text);
-    let mut more = [0u8; 1];
-    let after = libc::read(file, &mut more);
-    if after < 0 {
-        os::fail(name);
-        return;
-    }
-    if 0 < after {
+// Reads the file of that name to its end, and runs it; one byte past the longest is enough to tell.
+fn run_file(rt: &(impl Files + Alloc), name: &str) -> io::Result<()> {
+    let mut text = Vec::new(rt.alloc());
+    File::open(rt, name)?
+        .take(LONGEST_FILE + 1)
+        .read_to_end(&mut text)?;
+    if LONGEST_FILE < text.len() as u64 {
         lines::write(b"the file has more than 65536 bytes\n");
-        return;
+    } else {
+        run_cases(&text);
     }
-    run_cases(&text[..end]);
+    Ok(())
 }
 
-// Runs the file that an argument names.
-fn run_named(argument: usize) {
-    let mut name = io::buffer();
-    let end = os::arg(argument, &mut name);
-    if os::errno() != 0 {
-        os::fail(b"two arguments, files of cases");
-        return;
+// Runs the file that an argument names, or says on standard error why it cannot be read.
+fn run_named(rt: &(impl Files + AllocGlobal + Eprint), argument: Option<String>) -> io::Result<()> {
+    let Some(name) = argument else {
+        return eprintln!(rt; "two arguments, files of cases");
+    };
+    match run_file(rt, name.as_str()) {
+        Ok(()) => Ok(()),
+        Err(error) => eprintln!(rt; "{name}: {error}"),
     }
-    let file = os::open_read(&name[..end]);
-    if file < 0 {
-        os::fail(&name[..end]);
-        return;
-    }
-    run_file(&name[..end], file);
-    libc::close(file);
 }
 
-fn main() {
-    run_named(1);
-    run_named(2);
+fn main(rt: HostRuntime) -> io::Result<()> {
+    let mut arguments = env::args(&rt)?;
+    let _program = arguments.next();
+    run_named(&rt, arguments.next())?;
+    run_named(&rt, arguments.next())
 }
