@@ -1,4 +1,4 @@
-# Builds, checks, installs and packs what users take. Nothing here installs packages: what is missing is said.
+# Builds, checks, installs and packs what users take.
 #
 #   make              the archive, the shared library and the command line
 #   make lib          the archive alone, target/lib/libflamivorse.a: the functions that rt proves and compiles, whole.

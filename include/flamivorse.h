@@ -46,9 +46,9 @@
 
 /* The version of this header, and of the archive that comes with it. */
 #define FLAMIVORSE_VERSION_MAJOR 0
-#define FLAMIVORSE_VERSION_MINOR 3
+#define FLAMIVORSE_VERSION_MINOR 2
 #define FLAMIVORSE_VERSION_PATCH 0
-#define FLAMIVORSE_VERSION "0.3.0"
+#define FLAMIVORSE_VERSION "0.2.0"
 
 /* Limits. Every share count from 1 to the limit is taken. */
 #define FLAMIVORSE_SHARES_LIMIT 16

@@ -3,14 +3,12 @@
 //! ```text
 //! bench                                times every step on both sides in turns, and prints the ratios
 //! bench STEP N SIDE REPEATS [BYTES]    makes one step so often and prints nothing, to count instructions
-//! bench words                          times both supplies of words, and tags with them
 //! bench time N BYTES                   times the archive's tag of so many bytes, in microseconds
 //! bench plot UNIT                      draws lines `shares bytes figure` of its input as an SVG
 //! ```
 
 mod optimised;
 mod plot;
-mod words;
 
 use flamivorse::{
     ChainOf, Drawn, Needed, Refusal, State, B2A_SHORT_COUNTS, CHAIN_WORDS, MESSAGE_LIMIT,
@@ -416,7 +414,6 @@ fn main() -> std::io::Result<()> {
             let lines = std::io::read_to_string(std::io::stdin())?;
             print!("{}", plot::svg(unit, &lines));
         }
-        ["words"] => words::table()?,
         ["time", n, bytes] => {
             let [archive, _] = sides("tag", number(n), number(bytes));
             println!("{:.3}", measure([archive])[0]);

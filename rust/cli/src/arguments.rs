@@ -3,7 +3,7 @@
 use crate::hash::Hash;
 use crate::problem::Problem;
 use lexopt::prelude::*;
-use std::ffi::{OsStr, OsString};
+use std::ffi::OsString;
 
 /// The share count where none is asked for.
 const SHARES: usize = 4;
@@ -11,10 +11,49 @@ const SHARES: usize = 4;
 /// The key's length where none is asked for: a block. All keys up to it draw the same.
 const KEY_LENGTH: usize = 64;
 
-pub const HELP: &str = include_str!("help.txt");
+pub const HELP: &str = "\
+Tags logs with HMAC-SHA-1 or HMAC-SHA-256 and checks such tags. The key is split
+into shares first, and only the tag is ever put together again.
 
-/// The name that stands for standard input.
-pub const INPUT: &str = "-";
+Usage:
+  flamivorse tag --key FILE [--hash HASH] [--shares N] [--words FILE] [LOG...]
+  flamivorse check --key FILE [--shares N] [--words FILE] [TAGS...]
+  flamivorse words [--hash HASH] [--shares N] [--key-length K] --length L
+
+Commands:
+  tag     print the tag and the name of each LOG
+  check   read lines as tag prints them from each TAGS, and say of each log
+          whether its tag is right; one of 40 digits is of SHA-1, one of 64 of
+          SHA-256
+  words   print how many random words the tag of a log of L bytes draws, how
+          many splitting a key of K bytes draws (once a run for each hash), and
+          the sum of the two
+
+With no LOG or TAGS, or where it is -, standard input is read.
+
+Options:
+  --key FILE      the key: the bytes of FILE as they stand, at most 1,024; a
+                  line end at the end of FILE is part of it
+  --hash HASH     tag by sha1 or by sha256 (sha1 unless said otherwise)
+  --shares N      work with N shares, 1 to 16 (4 unless said otherwise)
+  --words FILE    take the random words from FILE, four bytes a word, the most
+                  significant first, so that a run can be repeated; unless said
+                  otherwise they come from the operating system
+  --length L      the length of the log in bytes
+  --key-length K  the length of the key in bytes (64 unless said otherwise)
+  -h, --help      print this
+  -V, --version   print the version
+
+A log has at most 65,536 bytes. It is tagged block by block, so that few of its
+words are in memory at once. Keys of up to 64 bytes all draw the same few words;
+a longer one is hashed in shares, as HMAC has it, and draws many more, all at
+once: words --key-length K says how many.
+
+Exit status: 0 if all was done and every tag was right; 1 if a tag was not
+right, or a list had none, whatever else happened; 2 if something could not be
+done, and standard error says why. A refusal of the library is told by its
+number and in words.
+";
 
 /// A run of the program.
 pub enum Command {
@@ -23,12 +62,10 @@ pub enum Command {
     Tag {
         options: Options,
         hash: Hash,
-        style: Style,
         logs: Vec<OsString>,
     },
     Check {
         options: Options,
-        report: Report,
         lists: Vec<OsString>,
     },
     Words {
@@ -41,74 +78,23 @@ pub enum Command {
 
 /// What both tagging and checking need.
 pub struct Options {
-    pub key: KeyFile,
+    pub key: OsString,
     pub shares: usize,
     pub words: Option<OsString>,
-    pub warnings: bool,
-}
-
-/// Where the key stands, and how.
-pub struct KeyFile {
-    pub name: OsString,
-    pub hexadecimal: bool,
-    pub may_be_empty: bool,
-}
-
-/// How a tag is printed.
-#[derive(Clone, Copy, Default)]
-pub struct Style {
-    pub bsd: bool,
-    pub zero: bool,
-}
-
-/// What checking tells, and what it passes over.
-#[derive(Clone, Copy, Default)]
-pub struct Report {
-    pub ignore_missing: bool,
-    pub quiet: bool,
-    pub status: bool,
-    pub warn: bool,
 }
 
 /// All that can stand on the command line.
 #[derive(Default)]
 struct Given {
-    names: Vec<OsString>,
+    verb: Option<OsString>,
     key: Option<OsString>,
-    hex_key: Option<OsString>,
     hash: Option<Hash>,
     shares: Option<usize>,
     words: Option<OsString>,
     length: Option<usize>,
     key_length: Option<usize>,
-    /// The options that have no value, as they are named at length.
-    switches: Vec<&'static str>,
+    names: Vec<OsString>,
 }
-
-/// The options that have no value, by letter and name.
-const SWITCHES: [(Option<char>, &str); 10] = [
-    (None, "allow-empty-key"),
-    (None, "quiet-warnings"),
-    (None, "tag"),
-    (Some('z'), "zero"),
-    (Some('c'), "check"),
-    (None, "ignore-missing"),
-    (None, "quiet"),
-    (None, "status"),
-    (None, "strict"),
-    (Some('w'), "warn"),
-];
-
-const OF_KEYS: [&str; 2] = ["allow-empty-key", "quiet-warnings"];
-const OF_TAG: [&str; 2] = ["tag", "zero"];
-const OF_CHECK: [&str; 6] = [
-    "check",
-    "ignore-missing",
-    "quiet",
-    "status",
-    "strict",
-    "warn",
-];
 
 /// The command that the arguments spell, or what is wrong with them.
 pub fn parse(mut parser: lexopt::Parser) -> Result<Command, Problem> {
@@ -118,105 +104,51 @@ pub fn parse(mut parser: lexopt::Parser) -> Result<Command, Problem> {
             Short('h') | Long("help") => return Ok(Command::Help),
             Short('V') | Long("version") => return Ok(Command::Version),
             Long("key") => given.key = Some(parser.value()?),
-            Long("hex-key") => given.hex_key = Some(parser.value()?),
             Long("hash") => given.hash = Some(parser.value()?.parse()?),
             Long("shares") => given.shares = Some(parser.value()?.parse()?),
             Long("words") => given.words = Some(parser.value()?),
             Long("length") => given.length = Some(parser.value()?.parse()?),
             Long("key-length") => given.key_length = Some(parser.value()?.parse()?),
+            Value(verb) if given.verb.is_none() => given.verb = Some(verb),
             Value(name) => given.names.push(name),
-            other => match switch(&other) {
-                Some(name) => given.switches.push(name),
-                None => return Err(other.unexpected().into()),
-            },
+            other => return Err(other.unexpected().into()),
         }
     }
     given.command()
 }
 
-/// The option without a value that this is.
-fn switch(argument: &lexopt::Arg) -> Option<&'static str> {
-    let same = |(letter, name): &&(Option<char>, &str)| match argument {
-        Short(given) => *letter == Some(*given),
-        Long(given) => name == given,
-        Value(_) => false,
-    };
-    SWITCHES.iter().find(same).map(|(_, name)| *name)
-}
-
 impl Given {
-    /// The command that the first name is, or that -c stands for.
     fn command(mut self) -> Result<Command, Problem> {
-        let verb = self.names.first().and_then(|name| name.to_str());
-        match verb {
-            Some("tag" | "check" | "words") => {}
-            _ if self.has("check") => self.names.insert(0, "check".into()),
-            None if self.names.is_empty() => {
-                return Err(Problem::usage("tag, check or words is missing"))
-            }
-            _ => {
-                let verb = &self.names[0];
-                return Err(Problem::usage(format!(
-                    "{verb:?} is not tag, check or words"
-                )));
-            }
-        }
-        let verb = self.names.remove(0);
+        let verb = self.verb.take().unwrap_or_default();
         match verb.to_str() {
             Some("tag") => self.tag(),
+            Some("check") => self.check(),
             Some("words") => self.words(),
-            _ => self.check(),
-        }
-    }
-
-    fn has(&self, switch: &str) -> bool {
-        self.switches.contains(&switch)
-    }
-
-    /// Whether only these options without a value are given; if not, for what the first other one is.
-    fn allow(&self, verb: &str, allowed: &[&[&str]]) -> Result<(), Problem> {
-        let other = |given: &&&str| !allowed.iter().any(|group| group.contains(*given));
-        match self.switches.iter().find(other) {
-            None => Ok(()),
-            Some(name) => Err(Problem::usage(format!("{verb} takes no --{name}"))),
+            Some("") => Err(Problem::usage("tag, check or words is missing")),
+            _ => Err(Problem::usage(format!(
+                "{verb:?} is not tag, check or words"
+            ))),
         }
     }
 
     fn tag(self) -> Result<Command, Problem> {
-        self.allow("tag", &[&OF_KEYS, &OF_TAG])?;
         let hash = self.hash.unwrap_or_default();
-        let style = Style {
-            bsd: self.has("tag"),
-            zero: self.has("zero"),
-        };
         let (options, logs) = self.files()?;
         Ok(Command::Tag {
             options,
             hash,
-            style,
             logs,
         })
     }
 
     fn check(self) -> Result<Command, Problem> {
-        self.allow("check", &[&OF_KEYS, &OF_CHECK])?;
         if self.hash.is_some() {
             return Err(Problem::usage(
                 "check takes no --hash: it knows the hash by the length of the tag",
             ));
         }
-        let report = Report {
-            ignore_missing: self.has("ignore-missing"),
-            quiet: self.has("quiet"),
-            status: self.has("status"),
-            warn: self.has("warn"),
-        };
         let (options, lists) = self.files()?;
-        Ok(Command::Check {
-            options,
-            report,
-            lists,
-        })
+        Ok(Command::Check { options, lists })
     }
 
     /// The options, and the names, or standard input where none is given.
@@ -227,42 +159,22 @@ impl Given {
             ));
         }
         if self.names.is_empty() {
-            self.names.push(INPUT.into());
+            self.names.push("-".into());
         }
-        let key = self.key_file()?;
-        let inputs = self.names.iter().chain([&key.name]);
-        if inputs.filter(|name| OsStr::new(INPUT) == *name).count() > 1 {
-            return Err(Problem::usage(
-                "standard input can be read once: a name is missing, or - stands twice",
-            ));
-        }
-        let options = Options {
-            key,
-            shares: self.shares.unwrap_or(SHARES),
-            warnings: !self.has("quiet-warnings"),
-            words: self.words,
-        };
-        Ok((options, self.names))
-    }
-
-    fn key_file(&mut self) -> Result<KeyFile, Problem> {
-        let hexadecimal = self.hex_key.is_some();
-        let name = match (self.key.take(), self.hex_key.take()) {
-            (Some(name), None) | (None, Some(name)) => name,
-            (None, None) => return Err(Problem::usage("--key is missing")),
-            _ => return Err(Problem::usage("--key and --hex-key are one key twice")),
-        };
-        Ok(KeyFile {
-            name,
-            hexadecimal,
-            may_be_empty: self.has("allow-empty-key"),
-        })
+        let key = self.key.ok_or(Problem::usage("--key is missing"))?;
+        let shares = self.shares.unwrap_or(SHARES);
+        Ok((
+            Options {
+                key,
+                shares,
+                words: self.words,
+            },
+            self.names,
+        ))
     }
 
     fn words(self) -> Result<Command, Problem> {
-        self.allow("words", &[])?;
-        let others = [&self.key, &self.hex_key, &self.words];
-        if others.iter().any(|option| option.is_some()) || !self.names.is_empty() {
+        if self.key.is_some() || self.words.is_some() || !self.names.is_empty() {
             return Err(Problem::usage(
                 "words takes --hash, --shares, --key-length and --length alone",
             ));

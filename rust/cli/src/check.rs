@@ -1,20 +1,13 @@
 //! Checks tags: reads lines as `tag` prints them, and says of each log whether its tag is right.
 
-use crate::arguments::{Options, Report, INPUT};
-use crate::descriptors::open;
+use crate::arguments::Options;
 use crate::hash::Hash;
-use crate::key::PlainKey;
-use crate::line::{self, Line};
-use crate::output::Output;
+use crate::line::Line;
 use crate::problem::{complain, Problem};
-use crate::quote::quoted;
-use crate::tagger::{Tagger, Work};
-use crate::Status;
+use crate::tagger::{open, PlainKey, Tagger, Words};
+use crate::{line, print, Status};
 use std::ffi::{OsStr, OsString};
-use std::io::{self, BufRead, BufReader, Read};
-
-/// The longest line of a list, in bytes: more than a tag and the longest name with every byte escaped.
-const LONGEST_LINE: usize = 16_384;
+use std::io::{self, BufRead, BufReader};
 
 /// What came of the lists so far.
 #[derive(Default)]
@@ -22,7 +15,6 @@ struct Tally {
     right: usize,
     wrong: usize,
     unread: usize,
-    missing: usize,
     no_tag: usize,
     other_length: usize,
     empty: usize,
@@ -60,7 +52,7 @@ impl Tally {
         }
     }
 
-    /// How many lines had a tag that was looked at.
+    /// How many lines had a tag.
     fn tags(&self) -> usize {
         self.right + self.wrong + self.unread + self.refused
     }
@@ -70,12 +62,22 @@ impl Tally {
 /// kept as well, since the next line may be of the other hash.
 struct Keys {
     plain: PlainKey,
-    work: Work,
+    words: Words,
     sha1: Option<Box<dyn Tagger>>,
     sha256: Option<Box<dyn Tagger>>,
 }
 
 impl Keys {
+    fn read(options: &Options) -> Result<Keys, Problem> {
+        let words = Words::open(options.words.as_ref())?;
+        Ok(Keys {
+            plain: PlainKey::read(options)?,
+            words,
+            sha1: None,
+            sha256: None,
+        })
+    }
+
     fn is_tag(&mut self, hash: Hash, tag: &[u8], name: &OsStr) -> Result<bool, Problem> {
         let split = match hash {
             Hash::Sha1 => &mut self.sha1,
@@ -83,142 +85,61 @@ impl Keys {
         };
         let key = match split {
             Some(key) => key,
-            None => split.insert(self.plain.split(hash, &mut self.work.words)?),
+            None => split.insert(self.plain.split(hash, &mut self.words)?),
         };
-        let verdict = key.is_tag(tag, name, &mut self.work);
-        self.work.progress.clear();
-        verdict
+        key.is_tag(tag, name, &mut self.words)
     }
-}
-
-/// A run of checking.
-struct Check {
-    keys: Keys,
-    output: Output,
-    report: Report,
-    /// Whether standard input is no log: a list or the key comes from it.
-    input_is_taken: bool,
-    tally: Tally,
 }
 
 /// Checks every line of every list. One that cannot be read to its end is told of, and the others
 /// are checked all the same.
-pub fn check(options: &Options, report: Report, lists: &[OsString]) -> Result<Status, Problem> {
-    let output = if report.status {
-        Output::none()
-    } else {
-        Output::open()?
-    };
-    let (plain, work) = Work::open(options)?;
-    let mut check = Check {
-        keys: Keys {
-            plain,
-            work,
-            sha1: None,
-            sha256: None,
-        },
-        output,
-        report,
-        input_is_taken: lists
-            .iter()
-            .chain([&options.key.name])
-            .any(|name| name == INPUT),
-        tally: Tally::default(),
-    };
+pub fn check(options: &Options, lists: &[OsString]) -> Result<Status, Problem> {
+    let mut keys = Keys::read(options)?;
+    let mut tally = Tally::default();
     for list in lists {
-        check.list(list);
+        let before = tally.tags();
+        if let Err(error) = check_list(&mut keys, list, &mut tally) {
+            complain(Problem::file(list, error));
+            tally.unlisted += 1;
+        } else if tally.tags() == before {
+            complain(format_args!(
+                "{}: no tags are in it",
+                list.to_string_lossy()
+            ));
+            tally.empty += 1;
+        }
     }
-    if !report.status {
-        check.tally.warn();
-    }
-    Ok(check.tally.status())
+    tally.warn();
+    Ok(tally.status())
 }
 
-impl Check {
-    fn list(&mut self, list: &OsStr) {
-        let (tags, missing) = (self.tally.tags(), self.tally.missing);
-        let read = self.lines(list);
-        let nothing = match (self.tally.tags() == tags, self.tally.missing == missing) {
-            (false, _) => None,
-            (true, true) => Some("no tags are in it"),
-            (true, false) => Some("no log of it is there"),
-        };
-        if let Err(error) = read {
-            complain(Problem::file(list, error));
-            self.tally.unlisted += 1;
-        } else if let Some(text) = nothing {
-            complain(format_args!("{}: {text}", quoted(list)));
-            self.tally.empty += 1;
+fn check_list(keys: &mut Keys, list: &OsStr, tally: &mut Tally) -> io::Result<()> {
+    for line in BufReader::new(open(list)?).split(b'\n') {
+        match line::read(&line?) {
+            Line::Tag { hash, tag, name } => check_tag(keys, hash, &tag, &name, tally),
+            Line::OtherLength => tally.other_length += 1,
+            Line::NoTag => tally.no_tag += 1,
         }
     }
+    Ok(())
+}
 
-    fn lines(&mut self, list: &OsStr) -> io::Result<()> {
-        let mut lines = BufReader::new(open(list)?);
-        let mut line = Vec::new();
-        for number in 1.. {
-            line.clear();
-            let mut rest = lines.by_ref().take(LONGEST_LINE as u64);
-            if rest.read_until(b'\n', &mut line)? == 0 {
-                break;
-            }
-            if line.len() == LONGEST_LINE {
-                return Err(io::Error::new(
-                    io::ErrorKind::InvalidData,
-                    "it is no list: a line has no end",
-                ));
-            }
-            self.line(list, number, line.strip_suffix(b"\n").unwrap_or(&line));
-        }
-        Ok(())
-    }
-
-    fn line(&mut self, list: &OsStr, number: usize, line: &[u8]) {
-        let text = match line::read(line) {
-            Line::Nothing => return,
-            Line::Tag { name, .. } if name == INPUT && self.input_is_taken => {
-                self.tally.no_tag += 1;
-                "standard input is no log here"
-            }
-            Line::Tag { hash, tag, name } => return self.tag(hash, &tag, &name),
-            Line::OtherLength => {
-                self.tally.other_length += 1;
-                "the tag has neither 40 nor 64 digits"
-            }
-            Line::NoTag => {
-                self.tally.no_tag += 1;
-                "no tag and name"
-            }
-        };
-        if self.report.warn {
-            complain(format_args!("{}: line {number}: {text}", quoted(list)));
-        }
-    }
-
-    /// Checks one tag, prints the verdict, and counts it.
-    fn tag(&mut self, hash: Hash, tag: &[u8], name: &OsStr) {
-        let (verdict, count) = match self.keys.is_tag(hash, tag, name) {
-            Ok(true) => ("OK", &mut self.tally.right),
-            Ok(false) => ("FAILED", &mut self.tally.wrong),
-            Err(problem) if problem.is_missing() && self.report.ignore_missing => {
-                self.tally.missing += 1;
-                return;
-            }
-            Err(problem) => {
-                complain(&problem);
-                if problem.is_refusal() {
-                    ("REFUSED", &mut self.tally.refused)
-                } else {
-                    ("FAILED open or read", &mut self.tally.unread)
-                }
-            }
-        };
-        *count += 1;
-        if self.report.quiet && verdict == "OK" {
-            return;
-        }
-        if let Err(problem) = self.output.print(&line::verdict(name, verdict)) {
+/// Checks one tag, prints the verdict, and counts it.
+fn check_tag(keys: &mut Keys, hash: Hash, tag: &[u8], name: &OsStr, tally: &mut Tally) {
+    let (verdict, count) = match keys.is_tag(hash, tag, name) {
+        Ok(true) => ("OK", &mut tally.right),
+        Ok(false) => ("FAILED", &mut tally.wrong),
+        Err(problem) => {
             complain(&problem);
-            self.tally.unprinted += 1;
+            match problem {
+                Problem::Refused(..) => ("REFUSED", &mut tally.refused),
+                _ => ("FAILED open or read", &mut tally.unread),
+            }
         }
+    };
+    *count += 1;
+    if let Err(problem) = print(&line::verdict(name, verdict)) {
+        complain(&problem);
+        tally.unprinted += 1;
     }
 }

@@ -10,33 +10,13 @@ pub enum Hash {
 }
 
 impl Hash {
-    pub const ALL: [Hash; 2] = [Hash::Sha1, Hash::Sha256];
-
     /// The hash whose tags have so many hexadecimal digits.
     pub fn by_digits(digits: usize) -> Option<Hash> {
-        Hash::ALL
-            .into_iter()
-            .find(|hash| 2 * hash.bytes() == digits)
-    }
-
-    /// The bytes of its tags.
-    pub fn bytes(self) -> usize {
-        match self {
-            Hash::Sha1 => flamivorse::TAG_BYTES,
-            Hash::Sha256 => flamivorse::SHA256_TAG_BYTES,
+        match digits {
+            40 => Some(Hash::Sha1),
+            64 => Some(Hash::Sha256),
+            _ => None,
         }
-    }
-
-    /// Its HMAC, as a line names it: first as it is printed, then as others print it.
-    pub fn names(self) -> &'static [&'static str] {
-        match self {
-            Hash::Sha1 => &["HMAC-SHA1"],
-            Hash::Sha256 => &["HMAC-SHA256", "HMAC-SHA2-256"],
-        }
-    }
-
-    pub fn name(self) -> &'static str {
-        self.names()[0]
     }
 }
 

@@ -1,31 +1,22 @@
 //! The command line of Flamivorse: tags logs and checks tags, in the habit of sha1sum.
 
-#![deny(unsafe_code)]
+#![forbid(unsafe_code)]
 
 mod arguments;
 mod check;
-mod descriptors;
 mod hash;
-mod key;
 mod line;
-mod log;
-mod output;
 mod problem;
-mod progress;
-mod quote;
 mod tagger;
-mod words;
 
-use arguments::{Command, Options, Style, HELP};
-use flamivorse::{
-    hmac_sha1_words, hmac_sha256_words, sha256_split_key_words, split_key_words, Refusal,
-};
+use arguments::{Command, Options, HELP};
+use flamivorse::{hmac_sha1_words, hmac_sha256_words, sha256_split_key_words, split_key_words};
 use hash::Hash;
-use output::Output;
-use problem::{complain, Long, Problem};
+use problem::{complain, Problem};
 use std::ffi::OsString;
+use std::io::{self, Write};
 use std::process::ExitCode;
-use tagger::Work;
+use tagger::{PlainKey, Words};
 
 /// How a run ends.
 #[derive(Clone, Copy)]
@@ -49,45 +40,42 @@ fn main() -> ExitCode {
 
 fn run(command: Command) -> Result<Status, Problem> {
     match command {
-        Command::Help => print(HELP),
-        Command::Version => print(concat!("flamivorse ", env!("CARGO_PKG_VERSION"), "\n")),
+        Command::Help => print(HELP.as_bytes())?,
+        Command::Version => {
+            print(concat!("flamivorse ", env!("CARGO_PKG_VERSION"), "\n").as_bytes())?
+        }
         Command::Words {
             hash,
             shares,
             key_length,
             length,
-        } => words(hash, shares, key_length, length),
+        } => words(hash, shares, key_length, length)?,
         Command::Tag {
             options,
             hash,
-            style,
             logs,
-        } => tag(&options, hash, style, &logs),
-        Command::Check {
-            options,
-            report,
-            lists,
-        } => check::check(&options, report, &lists),
+        } => return tag(&options, hash, &logs),
+        Command::Check { options, lists } => return check::check(&options, &lists),
     }
+    Ok(Status::Done)
 }
 
-fn print(text: &str) -> Result<Status, Problem> {
-    Output::open()?.print(text.as_bytes())?;
-    Ok(Status::Done)
+/// Writes to standard output.
+fn print(text: &[u8]) -> Result<(), Problem> {
+    io::stdout()
+        .write_all(text)
+        .map_err(|error| Problem::file("standard output", error))
 }
 
 /// Prints the tag and the name of each log. One that cannot be tagged is told of, and the rest are
 /// tagged all the same.
-fn tag(options: &Options, hash: Hash, style: Style, logs: &[OsString]) -> Result<Status, Problem> {
-    let mut output = Output::open()?;
-    let (key, mut work) = Work::open(options)?;
-    let key = key.split(hash, &mut work.words)?;
+fn tag(options: &Options, hash: Hash, logs: &[OsString]) -> Result<Status, Problem> {
+    let mut words = Words::open(options.words.as_ref())?;
+    let key = PlainKey::read(options)?.split(hash, &mut words)?;
     let mut status = Status::Done;
     for name in logs {
-        let tag = key.tag(name, &mut work);
-        work.progress.clear();
-        match tag {
-            Ok(tag) => output.print(&line::write(hash, &tag, name, style))?,
+        match key.tag(name, &mut words) {
+            Ok(tag) => print(&line::write(&tag, name))?,
             Err(problem) => {
                 complain(&problem);
                 status = Status::Trouble;
@@ -98,7 +86,11 @@ fn tag(options: &Options, hash: Hash, style: Style, logs: &[OsString]) -> Result
 }
 
 /// Prints how many words a tag draws, how many the splitting of the key draws, and the sum.
-fn words(hash: Hash, shares: usize, key_length: usize, length: usize) -> Result<Status, Problem> {
+fn words(hash: Hash, shares: usize, key_length: usize, length: usize) -> Result<(), Problem> {
+    let refused = |option, length: usize| {
+        let asked = format!("--shares {shares} {option} {length}");
+        move |refusal| Problem::refused(asked, refusal)
+    };
     let (tag, key) = match hash {
         Hash::Sha1 => (
             hmac_sha1_words(shares, length),
@@ -109,12 +101,8 @@ fn words(hash: Hash, shares: usize, key_length: usize, length: usize) -> Result<
             sha256_split_key_words(shares, key_length),
         ),
     };
-    let tag = tag.map_err(|refusal| match refusal {
-        Refusal::TooLong => Problem::too_long("--length", Long::Log(Some(length as u64))),
-        other => Problem::Refused(format!("--shares {shares}"), other),
-    })?;
-    let key =
-        key.map_err(|_| Problem::too_long("--key-length", Long::Key(Some(key_length as u64))))?;
+    let tag = tag.map_err(refused("--length", length))?;
+    let key = key.map_err(refused("--key-length", key_length))?;
     let total = tag.words() + key.words();
-    print(&format!("{tag} tag\n{key} key\n{total} total\n"))
+    print(format!("{tag} tag\n{key} key\n{total} total\n").as_bytes())
 }

@@ -18,7 +18,7 @@ use core::fmt;
 /// ```
 #[derive(Clone, Copy, Debug, PartialEq, Eq, PartialOrd, Ord, Hash)]
 #[must_use]
-pub struct Needed(pub(crate) u64);
+pub struct Needed(u64);
 
 /// How many random words a call drew: its words up to there are spent.
 ///
@@ -79,15 +79,12 @@ pub enum Refusal {
     /// 65,536, its hash is not the call's, or its count of words is not what a start and feeds draw
     /// for these.
     StateUnfit,
-    /// Number 6 too, and of this crate alone: a write to the stream failed before
-    /// ([`Stream::writer`](crate::Stream::writer)), so that what was fed is not the whole message.
-    Incomplete,
     /// Another number. No call hands one back; it would mean an archive of another version.
     Unknown(u32),
 }
 
 impl Refusal {
-    /// The number of this refusal, as the archive hands it back.
+    /// The number that the archive hands back for this refusal.
     #[must_use]
     pub const fn number(self) -> u32 {
         match self {
@@ -96,7 +93,7 @@ impl Refusal {
             Refusal::OutputLength => 3,
             Refusal::TooLong => 4,
             Refusal::SupplyShort => 5,
-            Refusal::StateUnfit | Refusal::Incomplete => 6,
+            Refusal::StateUnfit => 6,
             Refusal::Unknown(number) => number,
         }
     }
@@ -116,9 +113,6 @@ impl fmt::Display for Refusal {
             Refusal::SupplyShort => "there are fewer random words than the call draws",
             Refusal::StateUnfit => {
                 "the state is finished or of another hash, or its share, byte or word count is wrong"
-            }
-            Refusal::Incomplete => {
-                "a piece written before was not taken, being too long or without words or memory"
             }
             Refusal::Unknown(number) => {
                 return write!(f, "the archive gave the unknown number {number}")

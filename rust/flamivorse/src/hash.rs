@@ -79,21 +79,13 @@ pub struct Functions<C> {
 /// What only this crate's hashes have: nobody outside can name this trait.
 pub trait Sealed {
     /// Its chain, as its compression takes it.
-    type Chain: Clone + Default;
-    /// The words of the chain before the first block (FIPS 180-4, section 5.3).
-    const START: &'static [u32];
+    type Chain: Clone;
     /// Its functions.
     const FUNCTIONS: Functions<Self::Chain>;
-    /// The shares of a chain.
-    fn shares(chain: &mut Self::Chain) -> &mut [u32];
 }
 
 impl Sealed for Sha1 {
     type Chain = Chain;
-    #[rustfmt::skip]
-    const START: &'static [u32] = &[
-        0x6745_2301, 0xefcd_ab89, 0x98ba_dcfe, 0x1032_5476, 0xc3d2_e1f0,
-    ];
     const FUNCTIONS: Functions<Chain> = Functions {
         split_key: archive::flamivorse_split_key,
         compress: archive::flamivorse_sha1_compress,
@@ -108,18 +100,10 @@ impl Sealed for Sha1 {
         feed_words: archive::flamivorse_hmac_sha1_feed_words,
         finish_words: archive::flamivorse_hmac_sha1_finish_words,
     };
-
-    fn shares(chain: &mut Self::Chain) -> &mut [u32] {
-        &mut chain.shares
-    }
 }
 
 impl Sealed for Sha256 {
     type Chain = Sha256Chain;
-    #[rustfmt::skip]
-    const START: &'static [u32] = &[
-        0x6a09_e667, 0xbb67_ae85, 0x3c6e_f372, 0xa54f_f53a, 0x510e_527f, 0x9b05_688c, 0x1f83_d9ab, 0x5be0_cd19,
-    ];
     const FUNCTIONS: Functions<Sha256Chain> = Functions {
         split_key: archive::flamivorse_sha256_split_key,
         compress: archive::flamivorse_sha256_compress,
@@ -134,10 +118,6 @@ impl Sealed for Sha256 {
         feed_words: archive::flamivorse_hmac_sha256_feed_words,
         finish_words: archive::flamivorse_hmac_sha256_finish_words,
     };
-
-    fn shares(chain: &mut Self::Chain) -> &mut [u32] {
-        &mut chain.shares
-    }
 }
 
 /// Splits a key.

@@ -90,7 +90,7 @@ pub fn and(n: usize, x: &[u32], y: &[u32], z: &mut [u32], words: &[u32]) -> Resu
 /// ```
 /// use flamivorse::{add, add_words, open_xor, Supply};
 ///
-/// let mut supply = Supply::seeded()?;
+/// let mut supply = Supply::from_system()?;
 /// let mut z = [0; 2];
 /// add(2, &[900, 0], &[100, 0], &mut z, supply.lend(add_words(2)?)?)?;
 /// assert_eq!(open_xor(2, &z), Ok(1000));
@@ -105,7 +105,7 @@ pub fn add(n: usize, x: &[u32], y: &[u32], z: &mut [u32], words: &[u32]) -> Resu
 /// ```
 /// use flamivorse::{a2b, a2b_words, open_xor, Supply};
 ///
-/// let mut supply = Supply::seeded()?;
+/// let mut supply = Supply::from_system()?;
 /// let mut x = [0; 2];
 /// a2b(2, &[900, 100], &mut x, supply.lend(a2b_words(2)?)?)?;
 /// assert_eq!(open_xor(2, &x), Ok(1000));
@@ -120,7 +120,7 @@ pub fn a2b(n: usize, a: &[u32], x: &mut [u32], words: &[u32]) -> Result<Drawn, R
 /// ```
 /// use flamivorse::{b2a, b2a_words, open_sum, Supply};
 ///
-/// let mut supply = Supply::seeded()?;
+/// let mut supply = Supply::from_system()?;
 /// let mut a = [0; 2];
 /// b2a(2, &[1001, 1], &mut a, supply.lend(b2a_words(2)?)?)?;
 /// assert_eq!(open_sum(2, &a), Ok(1000));
@@ -137,7 +137,7 @@ pub fn b2a(n: usize, x: &[u32], a: &mut [u32], words: &[u32]) -> Result<Drawn, R
 /// ```
 /// use flamivorse::{b2a_short, b2a_short_words, open_sum, Refusal, Supply};
 ///
-/// let mut supply = Supply::seeded()?;
+/// let mut supply = Supply::from_system()?;
 /// let mut a = [0; 2];
 /// b2a_short(2, &[1001, 1], &mut a, supply.lend(b2a_short_words(2)?)?)?;
 /// assert_eq!(open_sum(2, &a), Ok(1000));

@@ -32,46 +32,36 @@ pub fn same_tag(one: &[u8], other: &[u8]) -> bool {
 
 /// Why a tag is not verified. There is no `false` that a caller could forget to look at.
 ///
-/// `R` is why the right tag could not be worked out: a [`Refusal`], or where words come from a supply a
-/// [`Failure`](crate::Failure).
-///
 /// ```
-/// use flamivorse::{Key, Refusal, Sha1, Unverified};
+/// use flamivorse::{Key, Refusal, Unverified};
 ///
-/// let key = Key::<Sha1>::split(1, b"Jefe", &[])?;
+/// let key = Key::split(1, b"Jefe", &[])?;
 /// assert_eq!(key.verify(b"07:30 door opened", &[0; 20], &[]), Err(Unverified::WrongTag));
 /// assert_eq!(key.verify(&[0; 65_537], &[0; 20], &[]), Err(Refusal::TooLong.into()));
 /// # Ok::<(), Refusal>(())
 /// ```
 #[derive(Clone, Copy, Debug, PartialEq, Eq)]
-pub enum Unverified<R = Refusal> {
-    /// The right tag could not be worked out.
-    Refused(R),
+pub enum Unverified {
+    /// The right tag could not be worked out, since a call was refused.
+    Refused(Refusal),
     /// The tag is another, or its length is.
     WrongTag,
 }
 
-impl<R> From<R> for Unverified<R> {
-    fn from(reason: R) -> Unverified<R> {
-        Unverified::Refused(reason)
+impl From<Refusal> for Unverified {
+    fn from(refusal: Refusal) -> Unverified {
+        Unverified::Refused(refusal)
     }
 }
 
-impl<R: fmt::Display> fmt::Display for Unverified<R> {
+impl fmt::Display for Unverified {
     fn fmt(&self, f: &mut fmt::Formatter<'_>) -> fmt::Result {
         match self {
-            Unverified::Refused(reason) => reason.fmt(f),
+            Unverified::Refused(refusal) => refusal.fmt(f),
             Unverified::WrongTag => f.write_str("the tag is not right"),
         }
     }
 }
 
 #[cfg(feature = "std")]
-impl<R: std::error::Error> std::error::Error for Unverified<R> {
-    fn source(&self) -> Option<&(dyn std::error::Error + 'static)> {
-        match self {
-            Unverified::Refused(reason) => reason.source(),
-            Unverified::WrongTag => None,
-        }
-    }
-}
+impl std::error::Error for Unverified {}

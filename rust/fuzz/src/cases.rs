@@ -9,8 +9,8 @@ use crate::lent::{Arguments, Lengths, Outline};
 use crate::random::Random;
 use flamivorse::{KEY_LIMIT, MESSAGE_LIMIT, SHARES_LIMIT};
 
-/// Of so many cases the last is of a message in pieces, and the first compares tags. The number
-/// decides, and nothing drawn, so that all other cases are what they would be without these.
+/// Every so manieth case is of a message in pieces. The number decides, and nothing drawn, so that
+/// all other cases are what they would be without these. As often tags are compared, beside a case.
 const STREAMED: u32 = 24;
 
 /// A call that draws more words than these is lent a few: the longest message at two shares draws no
@@ -30,12 +30,15 @@ pub struct Case {
 }
 
 impl Case {
+    /// The case of this number, and the comparison beside it, if there is one.
+    pub fn all(seed: u32, number: u32) -> impl Iterator<Item = Case> {
+        let beside = (number % STREAMED == 0).then(|| compared(seed, number));
+        [Case::new(seed, number)].into_iter().chain(beside)
+    }
+
     /// The case of this number.
-    pub fn new(seed: u32, number: u32) -> Case {
-        let mut random = Random::new(u64::from(seed) << 32 | u64::from(number));
-        if number % STREAMED == 0 {
-            return compared(&mut random);
-        }
+    fn new(seed: u32, number: u32) -> Case {
+        let mut random = random(seed, number);
         let streamed = number % STREAMED == STREAMED - 1;
         let queried = random.below(8) == 0;
         match (streamed, queried) {
@@ -62,6 +65,11 @@ impl Case {
                 .expect("a call that has a query"),
         }
     }
+}
+
+/// What the cases of this number draw from.
+fn random(seed: u32, number: u32) -> Random {
+    Random::new(u64::from(seed) << 32 | u64::from(number))
 }
 
 /// A query, also of lengths that no slice has.
@@ -109,13 +117,14 @@ fn made(random: &mut Random) -> Case {
 }
 
 /// Two tags, often of one of the right lengths: the same, nearly the same, of lengths one off, or any.
-fn compared(random: &mut Random) -> Case {
+fn compared(seed: u32, number: u32) -> Case {
+    let mut random = random(seed, number);
     let length = [0, 1, 20, 32, random.below(100)][random.below(5)];
     let lengths = Lengths {
         tag: random.below(100),
         ..SAME_TAG.lengths(0, length)
     };
-    let mut arguments = Arguments::random(0, lengths, random);
+    let mut arguments = Arguments::random(0, lengths, &mut random);
     let mut tag = arguments.bytes.slice().to_vec();
     match random.below(8) {
         0..=2 => {}
@@ -407,7 +416,7 @@ mod tests {
     #[test]
     fn every_function_of_the_header_is_in_the_table() {
         let functions = HEADER.split("flamivorse_").skip(1).filter_map(function);
-        let functions = functions.filter(|name| !name.starts_with("clear_stack"));
+        let functions = functions.filter(|name| name != "clear_stack" && name != "clear_stack_of");
         let table = all_possible().into_keys().collect();
         assert_eq!(functions.collect::<BTreeSet<_>>(), table);
     }
@@ -416,8 +425,9 @@ mod tests {
     fn every_number_of_every_call_comes_up() {
         let mut tally = Tally::default();
         for number in 0..40_000 {
-            let case = Case::new(0, number);
-            tally.add(case.name(), case.compare(Target::Rust).number);
+            for case in Case::all(0, number) {
+                tally.add(case.name(), case.compare(Target::Rust).number);
+            }
         }
         let seen = tally
             .calls()

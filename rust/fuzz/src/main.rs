@@ -36,9 +36,10 @@ fn parse(arguments: &[String]) -> Option<(Target, u32, Range<u32>)> {
 fn run(target: Target, seed: u32, cases: Range<u32>) -> Result<Tally, u32> {
     let mut tally = Tally::default();
     for number in cases {
-        let case = Case::new(seed, number);
-        let outcome = catch_unwind(|| case.compare(target)).map_err(|_| number)?;
-        tally.add(case.name(), outcome.number);
+        for case in Case::all(seed, number) {
+            let outcome = catch_unwind(|| case.compare(target)).map_err(|_| number)?;
+            tally.add(case.name(), outcome.number);
+        }
     }
     Ok(tally)
 }

@@ -1,6 +1,7 @@
 //! A second program for the rules of masked HMAC-SHA-1 and HMAC-SHA-256, written from them and the
 //! later requests alone, to be run beside the library and compared with it. Sections and requests
-//! are those of docs/RULES.md; quoted words are of the longer text that it has in short.
+//! are those of docs/RULES.md and REQUESTS.md; quoted words are of the longer text that these have in
+//! short.
 //!
 //! A call for n shares tests its arguments (section 3), works the rule out on vectors of its own
 //! (sections 2, 5 and 6, and the requests), and only then writes its output, so that a refusal

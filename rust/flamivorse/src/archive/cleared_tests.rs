@@ -1,12 +1,11 @@
 //! What is left on the stack and in registers: after the archive's own call shares are found there,
 //! after a safe call none are, and of the stack nothing is; nor is the right tag after another was
-//! found wrong, nor are words after they were lent, nor the key that they were made under. And what is
-//! left of a state that was dropped.
+//! found wrong, nor are words after they were lent. And what is left of a state that was dropped.
 
 use super::tested::Tested;
 use super::*;
 use crate::hash::{self, Sealed};
-use crate::{Bytes, Key, Seeded, Sha1, Sha256, Supply, Unverified};
+use crate::{Bytes, Key, Sha1, Sha256, Supply, Unverified};
 use std::arch::asm;
 use std::mem::MaybeUninit;
 
@@ -301,33 +300,6 @@ fn split_by_the_safe_call<H: Tested>() {
     }
 }
 
-#[test]
-fn no_shares_are_found_after_a_long_key_is_split_from_a_supply() {
-    split_from_a_supply::<Sha1>();
-    split_from_a_supply::<Sha256>();
-}
-
-fn split_from_a_supply<H: Tested>() {
-    for n in COUNTS {
-        let mut call = Splitting::new::<H>(n);
-        let (key, mut rest) = (&call.key, &call.words[..]);
-        let mut supply = Supply::new(|words: &mut [u32]| {
-            let (lent, after) = rest.split_at(words.len());
-            words.copy_from_slice(lent);
-            rest = after;
-            Ok::<(), ()>(())
-        });
-        Found::paint();
-        let split = in_own_frame(|| Key::<H>::split_from(n, key, &mut supply));
-        call.found.look();
-        let split = split.expect("its words");
-        call.shares.copy_from_slice(split.shares());
-        assert_eq!(call.found.left(), 0);
-        assert_eq!(call.count::<H>(), [0, 0]);
-        assert_eq!(call.found.count(&plain_key()), 0);
-    }
-}
-
 /// A state whose chains stand nowhere by chance, its block one byte short of full, and what is found
 /// after a call on it. It is in a box as well.
 struct Streaming {
@@ -427,7 +399,7 @@ fn verified_by_the_safe_call<H: Tested>() {
     for n in COUNTS {
         let (key, words) = (fresh(16, KEY), fresh(16 * (n - 1), BLOCK));
         let key: Vec<u8> = key.into_iter().flat_map(u32::to_be_bytes).collect();
-        let key = Key::<H>::split(n, &key, &words).expect("its words");
+        let key = Key::split_for::<H>(n, &key, &words).expect("its words");
         let count = key.tag_words(1).expect("a right count");
         let words = fresh(count.words(), SUPPLY);
         let right = key.tag(&[0], &words).expect("its words");
@@ -451,7 +423,7 @@ fn no_chains_are_found_after_a_stream_is_copied() {
 
 fn copied<H: Tested>() {
     for n in COUNTS {
-        let key = Key::<H>::split(n, b"key", &fresh(16 * (n - 1), BLOCK)).expect("its words");
+        let key = Key::split_for::<H>(n, b"key", &fresh(16 * (n - 1), BLOCK)).expect("its words");
         let count = key.start_words().expect("a right count");
         let stream = key.start(&fresh(count.words(), SUPPLY)).expect("its words");
         let mut found = Found::nothing();
@@ -476,26 +448,6 @@ fn no_words_are_found_after_they_are_lent() {
     assert_eq!(found.left(), 0);
     assert_eq!(found.count(&words), 0);
     assert!(!found.has_bytes_of(&bytes));
-}
-
-#[test]
-fn no_key_and_no_words_are_found_after_a_seeded_lending() {
-    let count = crate::add_words(SHARES_LIMIT).expect("a right count");
-    let key = fresh(8, KEY);
-    let mut supply = Supply::new(Seeded(|place: &mut [u32]| {
-        place.copy_from_slice(&key);
-        Ok::<(), ()>(())
-    }));
-    let mut found = Found::nothing();
-    Found::paint();
-    let lent = in_own_frame(|| supply.lend(count).is_ok());
-    found.look();
-    assert!(lent);
-    assert_eq!(found.left(), 0);
-    assert_eq!(found.count(&key), 0);
-    // The same once more, under the same key.
-    let words = supply.lend(count).expect("a key");
-    assert_eq!(found.count(words), 0);
 }
 
 #[test]

@@ -4,8 +4,8 @@
 
 use crate::against_second::compare_supplies;
 use crate::hashes::{with_each_hash, Tested};
-use crate::streams;
-use flamivorse::{open_xor, Key, Needed, KEY_LIMIT, SHARES_LIMIT};
+use crate::{report, streams};
+use flamivorse::{open_xor, split_key_words, Key, Needed, Sha1, KEY_LIMIT, SHARES_LIMIT};
 use fuzz::calls::{refused, Target, COUNTS, SOME_COUNTS};
 use fuzz::hashes::Hash;
 use fuzz::lent::{Arguments, Lengths};
@@ -64,7 +64,7 @@ const DRAWN: [(Hash, usize, [usize; SOME_COUNTS.len()]); 12] = [
 fn counts<H: Tested>() {
     let mut cases = 0;
     for (_, length, drawn) in DRAWN.iter().filter(|row| row.0 == H::calls().hash) {
-        let asked = SOME_COUNTS.map(|n| Key::<H>::split_words(n, *length).map(Needed::words));
+        let asked = SOME_COUNTS.map(|n| Key::split_for_words::<H>(n, *length).map(Needed::words));
         assert_eq!(asked, drawn.map(Ok));
         cases += asked.len();
     }
@@ -97,9 +97,9 @@ fn key_blocks_opened<H: Tested>() {
 
 /// A key of so many bytes, and its shares.
 fn random_key<H: Tested>(n: usize, length: usize, random: &mut Random) -> (Vec<u8>, Key<H>) {
-    let count = Key::<H>::split_words(n, length).expect("within the limits");
+    let count = Key::split_for_words::<H>(n, length).expect("within the limits");
     let (key, words) = (random.bytes(length), random.words(count.words()));
-    let split = Key::split(n, &key, &words).expect("exactly these words");
+    let split = Key::split_for(n, &key, &words).expect("exactly these words");
     (key, split)
 }
 
@@ -126,6 +126,20 @@ fn split_for_the_other_hash<H: Tested>() {
         }
     }
     H::report(3 * lengths.len(), "keys that were split for the other hash");
+}
+
+/// Where no hash is named a key is split for SHA-1.
+#[test]
+fn split_for_no_named_hash() {
+    let lengths = [20, 64, 65, 200];
+    for length in lengths {
+        let count = split_key_words(2, length).expect("within the limits");
+        let (key, words) = (vec![7; length], Random::new(706).words(count.words()));
+        let [named, unnamed] = [Key::split_for::<Sha1>, Key::split]
+            .map(|split| split(2, &key, &words).expect("exactly these words"));
+        assert_eq!(unnamed.shares(), named.shares());
+    }
+    report(lengths.len(), "keys that are split for no named hash");
 }
 
 fn tags_in_one_call_and_in_pieces<H: Tested>() {

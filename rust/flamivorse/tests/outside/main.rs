@@ -13,7 +13,6 @@ mod openings;
 mod reference;
 mod refusals;
 mod streams;
-mod supplies;
 mod tags;
 mod texts;
 mod two_shares;

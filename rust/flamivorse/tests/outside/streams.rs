@@ -3,10 +3,9 @@
 //! it was; a state of the other hash is refused; pieces fed with words from a supply, and written.
 
 use crate::hashes::{with_each_hash, Tested};
-use crate::supplies::ending;
 use crate::tags::tag;
 use flamivorse::{
-    Drawn, Failure, Hash, Key, Needed, Refusal, State, Stream, Supply, MESSAGE_LIMIT,
+    Drawn, Failure, Hash, Key, Needed, Refusal, Source, State, Stream, Supply, MESSAGE_LIMIT,
     SHA256_CHAIN_WORDS,
 };
 use fuzz::calls::{quick_message, SOME_COUNTS};
@@ -23,7 +22,7 @@ with_each_hash!(
     state_of_the_other_hash,
     after_a_finish,
     limit_of_all_pieces,
-    fed_from_a_supply,
+    fed_by_blocks,
     written
 );
 
@@ -85,8 +84,8 @@ impl Words {
 
 /// A key of n shares.
 fn split<H: Hash>(n: usize, key: &[u8]) -> Key<H> {
-    let count = Key::<H>::split_words(n, key.len());
-    Words::new(500).lent(count, |words| Key::split(n, key, words))
+    let count = Key::split_for_words::<H>(n, key.len());
+    Words::new(500).lent(count, |words| Key::split_for(n, key, words))
 }
 
 /// The tag of a message in pieces of these lengths, its state before the finish, and how many words
@@ -333,6 +332,20 @@ fn limit_of_all_pieces<H: Tested>() {
     H::report(LONG_COUNTS.len() * 8, "pieces at the limit");
 }
 
+/// A supply of seeded words that ends after so many of them, and tells how many were asked for at
+/// once at most.
+fn ending(mut left: usize, most: &Cell<usize>) -> Supply<impl Source<Error = io::Error> + '_> {
+    let mut random = Random::new(509);
+    Supply::new(move |words: &mut [u32]| {
+        most.set(most.get().max(words.len()));
+        left = left
+            .checked_sub(words.len())
+            .ok_or(io::ErrorKind::UnexpectedEof)?;
+        words.fill_with(|| random.word());
+        Ok(())
+    })
+}
+
 /// A stream at n shares that has so many bytes already.
 fn begun<H: Hash>(n: usize, bytes: &[u8]) -> Stream<H> {
     let mut words = Words::new(510);
@@ -347,7 +360,7 @@ const PIECES: [(usize, usize); 7] = [(0, 0), (0, 63), (0, 64), (1, 63), (1, 200)
 
 /// A supply lends the words of one block at a time, and all together they are those of one feed. One
 /// that ends before leaves the stream as it was.
-fn fed_from_a_supply<H: Tested>() {
+fn fed_by_blocks<H: Tested>() {
     let message = Random::new(511).bytes(300);
     for n in SOME_COUNTS {
         for (first, length) in PIECES {
@@ -355,11 +368,11 @@ fn fed_from_a_supply<H: Tested>() {
             let (mut stream, most) = (begun::<H>(n, before), Cell::new(0));
             let need = stream.feed_words(length).expect("a fit state");
             if need.words() > 0 {
-                let failed = stream.feed_from(piece, &mut ending(need.words() - 1, &most));
+                let failed = stream.feed_by_blocks(piece, &mut ending(need.words() - 1, &most));
                 assert!(matches!(failed, Err(Failure::Source(_))));
                 assert!(fields(stream.state()) == fields(begun::<H>(n, before).state()));
             }
-            let drawn = stream.feed_from(piece, &mut ending(need.words(), &most));
+            let drawn = stream.feed_by_blocks(piece, &mut ending(need.words(), &most));
             assert!(matches!(drawn, Ok(drawn) if drawn.words() == need.words()));
             assert!(most.get() as u64 <= H::calls().hash.compression_words(n));
 
@@ -369,11 +382,11 @@ fn fed_from_a_supply<H: Tested>() {
             assert!(fields(stream.state()) == fields(whole.state()));
         }
     }
-    H::report(SOME_COUNTS.len() * PIECES.len(), "pieces fed from a supply");
+    H::report(SOME_COUNTS.len() * PIECES.len(), "pieces fed by blocks");
 }
 
-/// What is copied to a stream is fed. A refusal and a failed source are errors of their own kind, and no
-/// word is lent for a refusal.
+/// What is copied to a stream is fed. A refusal and a failed source are errors of their own kind, no
+/// word is lent for a refusal, and nothing of such a write is taken.
 fn written<H: Tested>() {
     let mut cases = 0;
     for n in SOME_COUNTS {
@@ -389,13 +402,11 @@ fn written<H: Tested>() {
 
             let mut none = Supply::new(|_: &mut [u32]| -> io::Result<()> { panic!("lent") });
             let rest = vec![0; MESSAGE_LIMIT + 1 - length];
-            let mut copy = stream.clone();
-            let refused = copy.writer(&mut none).write_all(&rest).unwrap_err();
+            let refused = stream.writer(&mut none).write_all(&rest).unwrap_err();
             let inner = refused.get_ref().and_then(|inner| inner.downcast_ref());
             assert_eq!(inner, Some(&Refusal::TooLong));
             if n > 1 && rest.len() > 64 {
-                let mut copy = stream.clone();
-                let failed = copy.writer(&mut ending(0, &most)).write(&rest[1..]);
+                let failed = stream.writer(&mut ending(0, &most)).write(&rest[1..]);
                 assert_eq!(failed.unwrap_err().kind(), io::ErrorKind::UnexpectedEof);
             }
             let tag = Words::new(513).finish(&mut stream);

@@ -21,8 +21,8 @@ pub fn tag<H: Hash>(
     message: &[u8],
     random: &mut Random,
 ) -> Result<H::Tag, Refusal> {
-    let words = random.words(Key::<H>::split_words(n, key.len())?.words());
-    let key = Key::<H>::split(n, key, &words)?;
+    let words = random.words(Key::split_for_words::<H>(n, key.len())?.words());
+    let key = Key::split_for::<H>(n, key, &words)?;
     let words = random.words(key.tag_words(message.len())?.words());
     key.tag(message, &words)
 }
@@ -99,24 +99,24 @@ fn limits<H: Tested>() {
     let mut random = Random::new(402);
     for n in COUNTS {
         let words = random.words(16 * (n - 1));
-        let key = Key::<H>::split(n, b"key", &words).expect("within the limits");
+        let key = Key::split_for::<H>(n, b"key", &words).expect("within the limits");
         let tag = key.tag(&[0; MESSAGE_LIMIT + 1], &words);
         assert_eq!(tag, Err(Refusal::TooLong));
         assert_eq!(key.tag_words(MESSAGE_LIMIT + 1), Err(Refusal::TooLong));
         let short = key.tag(&[0; MESSAGE_LIMIT], &words).err();
         assert_eq!(short, (n > 1).then_some(Refusal::SupplyShort));
-        let split = Key::<H>::split(n, &[0; KEY_LIMIT + 1], &words);
+        let split = Key::split_for::<H>(n, &[0; KEY_LIMIT + 1], &words);
         assert_eq!(split.err(), Some(Refusal::TooLong));
-        let count = Key::<H>::split_words(n, KEY_LIMIT + 1);
+        let count = Key::split_for_words::<H>(n, KEY_LIMIT + 1);
         assert_eq!(count, Err(Refusal::TooLong));
     }
     for n in SOME_COUNTS {
-        let count = Key::<H>::split_words(n, KEY_LIMIT).expect("within the limits");
+        let count = Key::split_for_words::<H>(n, KEY_LIMIT).expect("within the limits");
         let words = random.words(count.words());
-        assert!(Key::<H>::split(n, &[0; KEY_LIMIT], &words).is_ok());
+        assert!(Key::split_for::<H>(n, &[0; KEY_LIMIT], &words).is_ok());
     }
     for n in [0, SHARES_LIMIT + 1] {
-        let split = Key::<H>::split(n, b"key", &[]);
+        let split = Key::split_for::<H>(n, b"key", &[]);
         assert_eq!(split.err(), Some(Refusal::ShareCount));
     }
     H::report(COUNTS.len() * 5 + SOME_COUNTS.len() + 2, "limits");

@@ -2,13 +2,11 @@
 //! keys and streams can go to another thread, and errors be handed on as any error.
 
 use flamivorse::{
-    split, split_words, Bytes, Chain, ChainOf, Failure, Key, Refusal, Seeded, Sha1, Sha256,
-    Sha256Chain, State, Stream, Supply, Unverified, SHA256_CHAIN_WORDS,
+    split, split_words, Bytes, Chain, ChainOf, Failure, Key, Refusal, Sha1, Sha256, Sha256Chain,
+    State, Stream, Supply, Unverified, SHA256_CHAIN_WORDS,
 };
 use std::error::Error;
 use std::fmt::Debug;
-use std::fs::File;
-use std::io;
 
 /// It would be shown as this.
 const SECRET: u32 = 424_242;
@@ -28,11 +26,8 @@ fn of_counts_and_errors() -> Result<(), Refusal> {
         (text(drawn), drawn.to_string()),
         ("Drawn(1)".into(), "1".into())
     );
-    assert_eq!(text(Unverified::<Refusal>::WrongTag), "WrongTag");
-    assert_eq!(
-        Unverified::<Refusal>::WrongTag.to_string(),
-        "the tag is not right"
-    );
+    assert_eq!(text(Unverified::WrongTag), "WrongTag");
+    assert_eq!(Unverified::WrongTag.to_string(), "the tag is not right");
     let refused = Unverified::from(Refusal::TooLong);
     assert_eq!(text(refused), "Refused(TooLong)");
     assert_eq!(refused.to_string(), Refusal::TooLong.to_string());
@@ -40,18 +35,13 @@ fn of_counts_and_errors() -> Result<(), Refusal> {
         text(Failure::<()>::from(Refusal::TooLong)),
         "Refused(TooLong)"
     );
-    assert_eq!(text(Failure::<()>::OutOfMemory), "OutOfMemory");
-    let memory = Unverified::from(Failure::<Refusal>::OutOfMemory);
-    assert_eq!(memory.to_string(), "there is not enough memory");
-    assert_eq!(text(Refusal::Incomplete), "Incomplete");
-    assert_eq!(Refusal::Incomplete.number(), 6);
-    crate::report(9, "texts of counts and errors");
+    crate::report(5, "texts of counts and errors");
     Ok(())
 }
 
 #[test]
 fn of_what_has_a_secret() -> Result<(), Refusal> {
-    let key = Key::<Sha1>::split(2, &SECRET.to_be_bytes(), &[SECRET; 16])?;
+    let key = Key::split(2, &SECRET.to_be_bytes(), &[SECRET; 16])?;
     assert_eq!(text(&key), "Key { n: 2, .. }");
     let secret = ChainOf {
         shares: [SECRET; SHA256_CHAIN_WORDS],
@@ -70,18 +60,17 @@ fn of_what_has_a_secret() -> Result<(), Refusal> {
     let mut supply = Supply::new(Bytes(&[42; 64][..]));
     supply.lend(split_words(2)?).expect("there are more");
     assert_eq!(text(Bytes(&[42; 64][..])), "Bytes { .. }");
-    assert_eq!(text(Seeded(&[42; 64][..])), "Seeded { .. }");
     assert_eq!(text(&supply), "Supply { .. }");
     let mut stream = start(&key)?;
-    let of_stream = format!("Stream {{ state: {fields}, incomplete: false }}");
+    let of_stream = format!("Stream {{ state: {fields} }}");
     assert_eq!(text(&stream), of_stream);
     let of_writer = format!("Writer {{ stream: {of_stream}, .. }}");
     assert_eq!(text(stream.writer(&mut supply)), of_writer);
-    crate::report(9, "texts of what has a secret");
+    crate::report(8, "texts of what has a secret");
     Ok(())
 }
 
-fn start(key: &Key<Sha1>) -> Result<Stream<Sha1>, Refusal> {
+fn start(key: &Key) -> Result<Stream, Refusal> {
     key.start(&[SECRET; 20_880])
 }
 
@@ -90,10 +79,8 @@ fn types() {
     fn goes_to_a_thread<T: Send + Sync + 'static>() {}
     fn is_an_error<E: Error + Send + Sync + 'static>() {}
     goes_to_a_thread::<(Key<Sha1>, Stream<Sha1>, Key<Sha256>, Stream<Sha256>)>();
-    goes_to_a_thread::<(State, Chain, Sha256Chain, Supply<Bytes<File>>)>();
-    goes_to_a_thread::<Supply<Seeded<Bytes<File>>>>();
+    goes_to_a_thread::<(State, Chain, Sha256Chain, Supply<Bytes<std::fs::File>>)>();
     is_an_error::<Refusal>();
     is_an_error::<Unverified>();
-    is_an_error::<Failure<io::Error>>();
-    is_an_error::<Unverified<Failure<io::Error>>>();
+    is_an_error::<Failure<std::io::Error>>();
 }

@@ -24,8 +24,8 @@ impl<H: Tested> Verifying<H> {
         let mut lent = |count: Result<Needed, Refusal>| {
             random.words(count.expect("within the limits").words())
         };
-        let words = lent(Key::<H>::split_words(n, 3));
-        let key = Key::<H>::split(n, b"key", &words).expect("its words");
+        let words = lent(Key::split_for_words::<H>(n, 3));
+        let key = Key::split_for::<H>(n, b"key", &words).expect("its words");
         let mut stream = key.start(&lent(key.start_words())).expect("its words");
         stream.feed(&message, &[]).expect("less than a block");
         Verifying {
