@@ -5,7 +5,7 @@
 ghost use Rattle.std.specs.Prelude.{◌≡◌, true, [], ◌∷◌, ◌+◌, ◌-◌, ◌*◌, ◌≤◌, ◌<◌, leb};
 ghost use Rattle.width.specs.Width.{bits};
 ghost use Rattle.rules.specs.Numbers.{largest, longest_key, longest_message, choose, power, allowed, test, first};
-ghost use Rattle.rules.specs.Standard.{SHA1};
+ghost use Rattle.rules.specs.Standard.{SHA1 as sha1_standard};
 ghost use Rattle.rules.specs.Counts.{refresh_draws, and_draws, add_draws, to_bool_draws, to_arith_draws, short_draws};
 ghost use Rattle.rules.specs.Counts.{compressions, key_draws, hmac_draws, start_draws, feed_draws};
 ghost use Rattle.rules.specs.Counts.{finish_draws, state_draws, hash_of};
@@ -153,7 +153,7 @@ pub fn compress_words(code: u32, n: usize) -> Answer
 
 // The compressions of HMAC of a message of so many bytes, where that is not too long.
 fn compressions(message: usize) -> usize
-    ensures { (result ≤ 1028) × (leb message longest_message ≡ true → compressions (SHA1 32) message ≡ result) }
+    ensures { (result ≤ 1028) × (leb message longest_message ≡ true → compressions (sha1_standard 32) message ≡ result) }
 {
     if LONGEST_MESSAGE < message {
         return 0;

@@ -1,5 +1,5 @@
 -- Bytes and words: how many, how large, and back. Bytes are words of 8 bits, and a word of m bytes is one of 8m bits.
-use Prim.Native.Nat.{ℕ, zero, suc, ◌+◌, ◌-◌, ◌*◌, ◌/◌, ◌%◌, ◌^◌, ◌≤◌, ◌<◌}
+use Prim.Native.Nat.{ℕ, zero, suc, ◌+◌, ◌*◌, ◌/◌, ◌%◌, ◌^◌, ◌≤◌, ◌<◌}
 use mathlib.Core.Path.{◌≡◌, refl, sym, ap, ap₂, ◌∙◌}
 use mathlib.Core.List.{List, [], ◌∷◌, ◌++◌, map}
 use native.Mathlib.Nat.{mod-lt, mod-eq_of_lt, zero-lt-suc, zero-add, suc-add, zero-mul, suc-mul, pow-suc, div-div-eq-div-mul}

@@ -1,7 +1,0 @@
--- the tests of its share count, and the others
-use borrow.Author.Rules.{rules}
-use Rattle.numbers.proofs.one_input.Statement.{statement}
-use Rattle.numbers.proofs.one_input.Tie as tie
-
-pub one_input_spec : {M : Type 1} → statement M
-one_input_spec = tie.close (tie.spec (λ c κs. search rules) (λ c κs. search rules) (λ c. cc))
