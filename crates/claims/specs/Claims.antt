@@ -1,8 +1,10 @@
 -- The claims, on one page: each demand as a theorem about the calls (crates/rules/specs/Calls.antt) at 32 bits. What is
 -- said of a hash is said of both, by its code: `hash_of 32 0` is `sha1 32`, `hash_of 32 1` is `sha256 32`. How an
--- outcome is described, `Given`, `Settles`, `Follows`, `Makes`, stands in crates/rules/specs/Outcome.antt. The hypothesis
--- `Words k x`, every entry of x is below 2^k, is true of all that the code can be lent: words (k = 32), bytes (k = 8).
-use Rattle.std.specs.Prelude.{ℕ, zero, suc, ◌+◌, ◌-◌, ◌*◌, ◌/◌, ◌%◌, ◌^◌, ◌≤◌, ◌<◌, ◌≡◌, refl, List, [], ◌∷◌, ◌++◌, length, get_or, take, replicate}
+-- outcome is described, `Given`, `Settles`, `Follows`, `Makes`, stands in crates/rules/specs/Outcome.antt. The
+-- hypothesis `Words k x`, every entry of x is below 2^k, is true of all that the code can be lent: words (k = 32),
+-- bytes (k = 8).
+use Rattle.std.specs.Prelude.{ℕ, zero, suc, ◌+◌, ◌-◌, ◌*◌, ◌/◌, ◌%◌, ◌^◌, ◌≤◌, ◌<◌, ◌≡◌, refl, List, [], ◌∷◌, ◌++◌}
+use Rattle.std.specs.Prelude.{length, get_or, take, replicate}
 use Rattle.std.proofs.Common.{sym, ap, ◌∙◌, lit<, lit≤}
 use Rattle.std.specs.Int.Bits.{bit_xor, bit_and}
 use Rattle.std.proofs.lemmas.Nat.{xor_lt}
@@ -27,10 +29,13 @@ use Rattle.rules.specs.Sha1.{open_words}
 use Rattle.rules.specs.Hmac.{chain_room, used, chain_of, split_key, hmac_tag}
 use Rattle.rules.specs.Counts.{refresh_draws, add_draws, to_bool_draws, to_arith_draws, short_draws}
 use Rattle.rules.specs.Counts.{key_draws, state_draws, standard_of, hash_of, sha1, sha256}
-use Rattle.rules.specs.Calls.{call, b2a_two, a2b_two, b2a_record_call, a2b_record_call, split_call, open_xor_call, open_sum_call}
-use Rattle.rules.specs.Calls.{refresh_call, expand_call, and_call, add_call, a2b_call, b2a_call, b2a_short_call, split_key_call}
+use Rattle.rules.specs.Calls.{call, b2a_two, a2b_two, b2a_record_call, a2b_record_call, split_call, open_xor_call}
+use Rattle.rules.specs.Calls.{open_sum_call}
+use Rattle.rules.specs.Calls.{refresh_call, expand_call, and_call, add_call, a2b_call, b2a_call, b2a_short_call}
+use Rattle.rules.specs.Calls.{split_key_call}
 use Rattle.rules.specs.Calls.{compress_call, hmac_call, same_tag}
-use Rattle.rules.specs.Stream.{ReadAlike, state_of_zeros, start, feed, finish, start_call, feed_call, finish_call, closed}
+use Rattle.rules.specs.Stream.{ReadAlike, state_of_zeros, start, feed, finish, start_call, feed_call, finish_call}
+use Rattle.rules.specs.Stream.{closed}
 use Rattle.rules.specs.Stream.{Feeds, message, after, drawn, Accepted, Reached}
 use Rattle.rules.specs.Outcome.{Power, Allowed, Fit, Whole, None, Asks, Done, Given, Settles, Follows, Makes}
 use Rattle.rules.proofs.Outcomes.{untested, says_power, says_count, says_eq, says_le, says_two, exactly, follows, makes}
@@ -112,10 +117,10 @@ V-more = short_more
 pub V-closed : (n : ℕ) → 0 < n → short_draws n ≡ 7 * 2 ^ (n - 1) - 3 * n - 4
 V-closed = short_closed
 
--- The calls on n shares, each with what it asks of its input, how long its output is, what it asks of its text, how many
--- words it draws and its rule. Refused, it reports 0 words drawn and the output stays as it came (`refused-leaves`).
--- Accepted, output and count are the rule's, from place 0 (`accepted-is`), the count in closed form (`count`), and words
--- after those drawn have no influence (`past-draws`).
+-- The calls on n shares, each with what it asks of its input, how long its output is, what it asks of its text, how
+-- many words it draws and its rule. Refused, it reports 0 words drawn and the output stays as it came
+-- (`refused-leaves`). Accepted, output and count are the rule's, from place 0 (`accepted-is`), the count in closed
+-- form (`count`), and words after those drawn have no influence (`past-draws`).
 pub record CallsFollow (n : ℕ) : Type 0 where
   pub split_follows : (value : ℕ) → Follows (Allowed n) None n None (n - 1) (split n value) (split_call n value)
   pub refresh_follows : (x : List ℕ)
@@ -132,7 +137,8 @@ pub record CallsFollow (n : ℕ) : Type 0 where
       → Follows (Allowed n) (length x ≡ n) n None (n - 1 + W n + 16 * (n * (n - 1)) + n * (n - 1) / 2)
       (to_arith 32 (add 32) refresh x) (b2a_call 32 n x)
   pub b2a_short_follows : (x : List ℕ)
-      → Follows (Power n) (length x ≡ n) n None (7 * 2 ^ (n - 1) - 3 * n - 4) (to_arith_short 32 x) (b2a_short_call 32 n x)
+      → Follows (Power n) (length x ≡ n) n None (7 * 2 ^ (n - 1) - 3 * n - 4) (to_arith_short 32 x)
+      (b2a_short_call 32 n x)
 
 pub calls_follow : (n : ℕ) → CallsFollow n
 unfolding first test call
@@ -199,38 +205,40 @@ pub a2b_record_settles : (A r G : ℕ) (came : List ℕ)
 a2b_record_settles A r G came = record_settles 165 (a2b_record 32 A r G) came
 
 -- The records have 7 and 5k + 5 entries, at every width.
-pub record_lengths : (k x r G : ℕ) → 0 < k → (length (b2a_record k x r G) ≡ 7) × (length (a2b_record k x r G) ≡ 5 * k + 5)
+pub record_lengths : (k x r G : ℕ) → 0 < k → (length (b2a_record k x r G) ≡ 7)
+    × (length (a2b_record k x r G) ≡ 5 * k + 5)
 record_lengths k x r G h = (b2a_length k x r G, a2b_length k x r G h)
 
 -- A compression: refused, the chain record exactly as given; accepted, the new chain with 0 after its words, 5n of
 -- SHA-1 and 8n of SHA-256, and E(n) words drawn. What the record has after these words, and the supply after those
 -- drawn, is not looked at. (That a record has 80 or 128 places is its type's.)
-module _ (code n : ℕ) (chain : List ℕ) (whole : length chain ≡ chain_room (standard_of 32 code)) (block ws : List ℕ) where
-  abbrev words : ℕ
-  words = chain_words (standard_of 32 code)
+module _ (code n : ℕ) (chain : List ℕ) (whole : length chain ≡ chain_room (standard_of 32 code)) (block ws : List ℕ)
+  where
+    abbrev words : ℕ
+    words = chain_words (standard_of 32 code)
 
-  abbrev o : Answer × List ℕ
-  o = compress_call (hash_of 32 code) n chain block ws
+    abbrev o : Answer × List ℕ
+    o = compress_call (hash_of 32 code) n chain block ws
 
-  pub compress_settles : (let made = (hash_of 32 code).compress n (take (words * n) chain) block ws 0 in
-      Settles {A = List ℕ × ℕ}
-      (Asks (Allowed n) 1 (Asks (length block ≡ 16 * n) 2 (Asks (E code n ≤ length ws) 5 Done)))
-      o.0.number (made.0 ++ replicate (words * 16 - words * n) 0, made.1) (chain, 0) (o.1, o.0.drawn))
-  unfolding used chain_of
-  compress_settles = compress_outcome code n chain block whole ws
+    pub compress_settles : (let made = (hash_of 32 code).compress n (take (words * n) chain) block ws 0 in
+        Settles {A = List ℕ × ℕ}
+        (Asks (Allowed n) 1 (Asks (length block ≡ 16 * n) 2 (Asks (E code n ≤ length ws) 5 Done)))
+        o.0.number (made.0 ++ replicate (words * 16 - words * n) 0, made.1) (chain, 0) (o.1, o.0.drawn))
+    unfolding used chain_of
+    compress_settles = compress_outcome code n chain block whole ws
 
-  pub compress_draws_lem : o.0.number ≡ 0 → o.0.drawn ≡ E code n
-  compress_draws_lem = compress_drawn code n chain block whole ws
+    pub compress_draws_lem : o.0.number ≡ 0 → o.0.drawn ≡ E code n
+    compress_draws_lem = compress_drawn code n chain block whole ws
 
-  pub compress_past_draws : o.0.number ≡ 0 → (other vs : List ℕ) → take (words * n) chain ≡ take (words * n) other
-      → take (E code n) ws ≡ take (E code n) vs → o ≡ compress_call (hash_of 32 code) n other block vs
-  compress_past_draws = compress_past code n chain block whole ws
+    pub compress_past_draws : o.0.number ≡ 0 → (other vs : List ℕ) → take (words * n) chain ≡ take (words * n) other
+        → take (E code n) ws ≡ take (E code n) vs → o ≡ compress_call (hash_of 32 code) n other block vs
+    compress_past_draws = compress_past code n chain block whole ws
 
-  -- Demand 2: it opens to FIPS 180-4's compression of what the chain and the block open to.
-  pub compress_is_fips180 : o.0.number ≡ 0 → Words 32 chain → Words 32 block
-      → open_words n words o.1
-      ≡ (standard_of 32 code).compress (open_words n words chain) (open_words n 16 block)
-  compress_is_fips180 = compress_opens_to code n chain block whole ws
+    -- Demand 2: it opens to FIPS 180-4's compression of what the chain and the block open to.
+    pub compress_is_fips180 : o.0.number ≡ 0 → Words 32 chain → Words 32 block
+        → open_words n words o.1
+        ≡ (standard_of 32 code).compress (open_words n words chain) (open_words n 16 block)
+    compress_is_fips180 = compress_opens_to code n chain block whole ws
 
 pub records_have : (chain_room (SHA1 32) ≡ 80) × (chain_room (SHA256 32) ≡ 128)
 records_have = (refl, refl)
@@ -292,7 +300,8 @@ module _ (k : ℕ) (wide : 0 < k) (x : List ℕ) (some : 0 < length x) (words : 
   pub to_arith_keeps : Words k ws → total (to_arith k (add k) refresh x ws at).0 % 2 ^ k ≡ opened x
   to_arith_keeps = to_arith_keeps_lem k wide x some words ws at
 
-  pub to_arith_draws_lem : (to_arith k (add k) refresh x ws at).1 ≡ at + to_arith_draws (add_draws k) refresh_draws (length x)
+  pub to_arith_draws_lem : (to_arith k (add k) refresh x ws at).1
+      ≡ at + to_arith_draws (add_draws k) refresh_draws (length x)
   to_arith_draws_lem =
       (to_arith_rule k (add_draws k) (add k) (add_all k wide) refresh_draws refresh refresh_refreshes x some
       (opened_lt k x words)).place ws at
@@ -490,9 +499,11 @@ module _ (k : ℕ) (wide : 0 < k) (code : ℕ) {n bytes words : ℕ} {s : State}
 
 -- The count that a fit state has, in closed form; and a finish leaves it, on any state, accepted or refused.
 pub state_draws_lem : (code n bytes : ℕ) → state_draws (hash_of 32 code) n bytes ≡ (2 + bytes / 64) * E code n
-state_draws_lem code n bytes = state_count (hash_of 32 code) n bytes refl ∙ ap (λ d. (2 + bytes / 64) * d) (E-draws code n)
+state_draws_lem code n bytes = state_count (hash_of 32 code) n bytes refl
+    ∙ ap (λ d. (2 + bytes / 64) * d) (E-draws code n)
 
-pub finish_leaves_count : (code : ℕ) (s : State) (came ws : List ℕ) → (finish_call (hash_of 32 code) s came ws).0.state.drawn ≡ s.drawn
+pub finish_leaves_count : (code : ℕ) (s : State) (came ws : List ℕ)
+    → (finish_call (hash_of 32 code) s came ws).0.state.drawn ≡ s.drawn
 finish_leaves_count code = finished_count (hash_of 32 code)
 
 -- The tag: RFC 2104's of the opened key and the joined pieces, whatever the words are; so it is the one-call tag.
@@ -501,7 +512,8 @@ module _ (code n : ℕ) (key ws : List ℕ) (words : Words 32 key)
     (fs : Feeds) (bytes : Words 8 (message fs))
     (taken : Accepted (hash_of 32 code) (start_call (hash_of 32 code) n key ws).state fs) where
   abbrev last : List ℕ → List ℕ → Streamed × List ℕ
-  last came vs = finish_call (hash_of 32 code) (after (hash_of 32 code) (start_call (hash_of 32 code) n key ws).state fs)
+  last came vs = finish_call (hash_of 32 code) (after (hash_of 32 code)
+      (start_call (hash_of 32 code) n key ws).state fs)
       came vs
 
   pub streamed_tag_is_rfc2104 : (came vs : List ℕ) → (last came vs).0.number ≡ 0

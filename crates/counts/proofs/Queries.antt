@@ -12,7 +12,8 @@ use mir.Syntax.{w64}
 use mir.Val.{Fits}
 use Rattle.width.specs.Width.{bits}
 use Rattle.rules.specs.declared.Answer.{Answer}
-use Rattle.rules.specs.Numbers.{largest, longest_key, longest_message, choose, either, power, allowed, Test, test, first}
+use Rattle.rules.specs.Numbers.{largest, longest_key, longest_message, choose, either, power, allowed, Test, test}
+use Rattle.rules.specs.Numbers.{first}
 use Rattle.rules.specs.Numbers.{both, settled, told}
 use Rattle.rules.specs.Counts.{and_draws, refresh_draws, add_draws, to_bool_draws_in, to_bool_draws, to_arith_draws}
 use Rattle.rules.specs.Counts.{quarter_ands, rounds_ands, compress_ands, key_draws, state_draws, hash_of}
@@ -31,7 +32,11 @@ told_count true d = refl
 told_count false d = refl
 
 pub query_count : (n d : ℕ)
-    → query (test 1 (allowed n) ∷ []) d ≡ record { number = first (test 1 (allowed n) ∷ []); drawn = choose (allowed n) d 0 }
+    → query (test 1 (allowed n) ∷ []) d ≡ record {
+      number = first (test 1 (allowed n) ∷ []);
+      drawn =
+          choose (allowed n) d 0;
+    }
 query_count n d = rw told_count
 
 told_times : (tests : List Test) (m d : ℕ) → told tests (m * d) ≡ m * told tests d
@@ -250,7 +255,8 @@ module _ (code n l : ℕ) (count : allowed n ≡ true) (short : l ≤ longest_ke
       let most-each : n - 1 ≤ 15 = omega (arith, few n count) in
       mul-le-mul most-words most-each
 
-  pub key_sum : (hashed m : ℕ) → hashed ≡ m * (hash_of 32 code).draws n → m ≤ 17 → (l + 3) / 4 * (n - 1) + hashed < 2 ^ 64
+  pub key_sum : (hashed m : ℕ) → hashed ≡ m * (hash_of 32 code).draws n → m ≤ 17
+      → (l + 3) / 4 * (n - 1) + hashed < 2 ^ 64
   key_sum hashed m e h =
       omega (arith, key_product, mul-le-mul h (compress_most code n (some n count) (few n count)))
 

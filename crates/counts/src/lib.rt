@@ -153,7 +153,8 @@ pub fn compress_words(code: u32, n: usize) -> Answer
 
 // The compressions of HMAC of a message of so many bytes, where that is not too long.
 fn compressions(message: usize) -> usize
-    ensures { (result ≤ 1028) × (leb message longest_message ≡ true → compressions (sha1_standard 32) message ≡ result) }
+    ensures { (result ≤ 1028)
+        × (leb message longest_message ≡ true → compressions (sha1_standard 32) message ≡ result) }
 {
     if LONGEST_MESSAGE < message {
         return 0;

@@ -49,7 +49,8 @@ firsts_zeros (suc (suc (suc (suc zero)))) h = refl
 firsts_zeros (suc (suc (suc (suc (suc n))))) h = absurd (omega arith)
 
 -- ---- a list of so many, word by word, and back
-pub loaded_one : (x : List ℕ) → length x ≡ 1 → firsts (length x) (record { s0 = get_or x 0 0; s1 = 0; s2 = 0; s3 = 0 }) ≡ x
+pub loaded_one : (x : List ℕ) → length x ≡ 1 → firsts (length x) (record { s0 = get_or x 0 0; s1 = 0; s2 = 0; s3 = 0 })
+    ≡ x
 unfolding firsts
 loaded_one [] e = absurd (omega arith)
 loaded_one (a ∷ []) e = refl

@@ -1,13 +1,16 @@
-// The calls that users make. Each takes any arguments at all and says its whole outcome: the answer and every lent buffer
-// afterwards.
+// The calls that users make. Each takes any arguments at all and says its whole outcome: the answer and every lent
+// buffer afterwards.
 #![tactic(auto)]
 
 ghost use Rattle.std.specs.Prelude.{◌≡◌};
-ghost use Rattle.rules.specs.Calls.{b2a_two, a2b_two, b2a_record_call, a2b_record_call, split_call, open_xor_call, open_sum_call};
+ghost use Rattle.rules.specs.Calls.{b2a_two, a2b_two, b2a_record_call, a2b_record_call, split_call, open_xor_call};
+ghost use Rattle.rules.specs.Calls.{open_sum_call};
 ghost use Rattle.rules.specs.Calls.{refresh_call, expand_call, and_call, add_call, a2b_call, b2a_call, b2a_short_call};
-ghost use Rattle.rules.specs.Calls.{split_words, refresh_words, expand_words, and_words, add_words, a2b_words, b2a_words};
+ghost use Rattle.rules.specs.Calls.{split_words, refresh_words, expand_words, and_words, add_words, a2b_words};
+ghost use Rattle.rules.specs.Calls.{b2a_words};
 ghost use Rattle.rules.specs.Calls.{b2a_short_words};
-ghost use Rattle.rules.specs.Calls.{split_key_call, compress_call, hmac_call, split_key_words, compress_words, hmac_words};
+ghost use Rattle.rules.specs.Calls.{split_key_call, compress_call, hmac_call, split_key_words, compress_words};
+ghost use Rattle.rules.specs.Calls.{hmac_words};
 ghost use Rattle.rules.specs.Calls.{same_tag};
 ghost use Rattle.rules.specs.Stream.{start_call, feed_call, finish_call, start_words, feed_words, finish_words};
 ghost use Rattle.rules.specs.Counts.{sha1, sha256};

@@ -20,7 +20,7 @@ use Rattle.rules.specs.Counts.{and_draws, compress_draws, compress256_ands}
 use Rattle.rules.specs.Hmac.{chain_room, used, chain_of}
 use Rattle.rules.specs.Calls.{compressed}
 use Rattle.rules.specs.Stream.{state_room}
-use Rattle.rules.proofs.Loops.{Run, array_length}
+use Rattle.rules.proofs.Loops.{Run}
 use Rattle.hash.specs.Hash.{hash, standard}
 use Rattle.hash.proofs.Publics.{length_publics}
 
@@ -155,13 +155,12 @@ module _ (code n end : ℕ) (is : end ≡ chain_words (standard code) * n) where
           let made : (hash code).compress n f block ws at ≡ (z, p) = rw front at e in
           rw (back, made, full, is)
 
-  pub cleared_made : (all C : List ℕ) → length (map (λ (v : ℕ). v) all) ≡ 128 → end ≤ 8 * n → n ≤ largest
+  pub cleared_made : (all C : List ℕ) → length all ≡ 128 → end ≤ 8 * n → n ≤ largest
       → C ≡ take end all ++ replicate (length all - end) 0
       → ◌≡◌ {A = Sha256Chain} (record { shares = C })
       (record { shares = filled state_room (used (standard code) n all) })
   cleared_made all C whole most low e =
-      let size = array_length all whole in
-      rw (e, behind_them all, in_use_lem all (omega arith), size)
+      rw (e, behind_them all, in_use_lem all (omega arith), whole)
 
 -- ---- clear_rest
 pub rest_made : (end : ℕ) (all rest : List ℕ) → end ≤ length all
@@ -175,9 +174,9 @@ rest_made end all rest h e =
     rw (none, append-nil rest, e, length-take-le m behind (omega arith))
 
 -- an array that is handed over has all its words
-pub array_end : (n end : ℕ) (all : List ℕ) → length (map (λ (v : ℕ). v) all) ≡ 128 → end ≤ 8 * n → n ≤ largest
+pub array_end : (n end : ℕ) (all : List ℕ) → length all ≡ 128 → end ≤ 8 * n → n ≤ largest
     → end ≤ length all
-array_end n end all whole h low = omega (arith, array_length all whole)
+array_end n end all whole h low = omega arith
 
 -- ---- compress_record: a copy of the block
 pub record_copied : (code n : ℕ) (all block u ws : List ℕ) (at : ℕ) (o : Run) → u ≡ block

@@ -114,7 +114,9 @@ module _ (n : ℕ) (some : 0 < n) where
   publics_take (suc i) [] = take-nil (suc i * n)
   publics_take (suc i) (v ∷ vs) =
       let e : suc i * n ≡ length (public n v) + i * n = omega (arith, suc-mul i n, length_public v) in
-      rw e (take-append-add (public n v) (publics n vs) (i * n) ∙ ap (λ (t : List ℕ). public n v ++ t) (publics_take i vs))
+      rw e (take-append-add (public n v) (publics n vs) (i * n)
+      ∙ ap (λ (t : List ℕ). public n v ++ t) (publics_take i vs))
 
-  pub publics_part : (m i : ℕ) (vs : List ℕ) → take (m * n) (drop (i * n) (publics n vs)) ≡ publics n (take m (drop i vs))
+  pub publics_part : (m i : ℕ) (vs : List ℕ) → take (m * n) (drop (i * n) (publics n vs))
+      ≡ publics n (take m (drop i vs))
   publics_part m i vs = ap (take (m * n)) (publics_drop i vs) ∙ publics_take m (drop i vs)

@@ -115,7 +115,8 @@ sha1_left code n l is e = rw is at e
 pub sha256_left : (code n l : ℕ) → (code ≡ 0 → ⊥) → l ≡ (16 - chain_words (standard code)) * n → l ≡ 8 * n
 sha256_left code n l not e = rw (more code not) at e
 
-pub padding_part : (code n : ℕ) (inner d z : List ℕ) → length inner ≡ chain_words (standard code) * n → length z ≡ 16 * n
+pub padding_part : (code n : ℕ) (inner d z : List ℕ) → length inner ≡ chain_words (standard code) * n
+    → length z ≡ 16 * n
     → d ≡ inner → (let m = length inner in
     length (take (length z - m) (drop m (d ++ drop (m - 0) z))) ≡ (16 - chain_words (standard code)) * n)
 padding_part code n inner d z is size e =

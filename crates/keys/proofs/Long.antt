@@ -68,7 +68,7 @@ module _ (n : ℕ) (some : 0 < n) (bytes : ℕ) (lasts ws : List ℕ) (at j : �
 
 -- ---- the digest's words, then zero shares
 pub digest_made : (code n m end : ℕ) (chain zs d : List ℕ) → end ≡ chain_words (standard code) * n
-    → length (map (λ (v : ℕ). v) chain) ≡ 128 → end ≤ 8 * n → n ≤ largest → m ≡ 16 * n → zs ≡ replicate m 0 → d
+    → length chain ≡ 128 → end ≤ 8 * n → n ≤ largest → m ≡ 16 * n → zs ≡ replicate m 0 → d
     ≡ take (end - 0) chain
     → d ++ drop (end - 0) zs ≡ filled (16 * n) (used (standard code) n chain)
 digest_made code n m end chain zs d is whole most low size e f =

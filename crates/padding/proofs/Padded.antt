@@ -74,14 +74,17 @@ module _ (before : ℕ) (text : List ℕ) (i : ℕ) where
       let z = zeros H (before + L) in
       let p = 7 - j in
       let bits = (before + L) * 8 in
-      let place : i ≡ L + suc (length {A = ℕ} (replicate z 0) + p) = omega (arith, length-replicate {A = ℕ} z 0, whole h) in
-      g ∙ sym (after (length {A = ℕ} (replicate z 0) + p) place ∙ get_or-append-add (replicate z 0) (bytes_of 8 bits) p 0
+      let place : i ≡ L + suc (length {A = ℕ} (replicate z 0) + p) =
+      omega (arith, length-replicate {A = ℕ} z 0, whole h) in
+      g ∙ sym (after (length {A = ℕ} (replicate z 0) + p) place
+      ∙ get_or-append-add (replicate z 0) (bytes_of 8 bits) p 0
       ∙ byte_of 8 bits p j (omega arith))
 
 -- ---- word i of bytes
 pub word_of : (m : ℕ) (bs : List ℕ) (i : ℕ) → i < m
     → get_or (words_of 4 m bs) i 0
-    ≡ ((get_or bs (4 * i) 0 * 256 + get_or bs (4 * i + 1) 0) * 256 + get_or bs (4 * i + 2) 0) * 256 + get_or bs (4 * i + 3) 0
+    ≡ ((get_or bs (4 * i) 0 * 256 + get_or bs (4 * i + 1) 0) * 256 + get_or bs (4 * i + 2) 0) * 256
+    + get_or bs (4 * i + 3) 0
 unfolding words_of number_of
 word_of zero bs i h = absurd (omega arith)
 word_of (suc m) bs zero h = omega arith
@@ -136,7 +139,8 @@ module _ (before : ℕ) (text : List ℕ) (aligned : before % 64 ≡ 0) where
         → take (w + 1) (set z w v) ≡ take (w + 1) block
     block_next v h e p =
         filled_next z block w v (omega arith) (room ∙ sym length_block)
-        (e ∙ sym (get_or-take 16 (drop (16 * j) (ending H before text)) w 0 (omega arith) ∙ get_or-drop (16 * j) (ending H before text) w 0)) p
+        (e ∙ sym (get_or-take 16 (drop (16 * j) (ending H before text)) w 0 (omega arith)
+        ∙ get_or-drop (16 * j) (ending H before text) w 0)) p
 
     pub block_end : length z ≤ w → take w z ≡ take w block → z ≡ block
     block_end h p = filled_end z block w (omega (arith, length_block)) (room ∙ sym length_block) p

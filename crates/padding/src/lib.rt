@@ -1,5 +1,5 @@
-// What is hashed after so many bytes that went into the chain already: a text with its padding, byte by byte, word by word and
-// block by block, as public values. SHA-1 and SHA-256 have the same padding; it is said of SHA-1.
+// What is hashed after so many bytes that went into the chain already: a text with its padding, byte by byte, word by
+// word and block by block, as public values. SHA-1 and SHA-256 have the same padding; it is said of SHA-1.
 #![tactic(auto)]
 
 ghost use Rattle.std.specs.Prelude.{◌≡◌, ◌+◌, ◌*◌, ◌/◌, ◌%◌, ◌^◌, ◌<◌, length, get_or, take, drop, replicate};
@@ -67,7 +67,8 @@ fn word_at(before: usize, text: &[u8], i: usize) -> u32
 
 // Block j of the text with its padding, as 16 words.
 pub fn block_words(before: usize, text: &[u8], j: usize, z: &mut [u32])
-    requires { (before % 64 ≡ 0) × Hashable (before + length text.now) × (j < blocks_in (length text.now)) × (length z.old ≡ 16) }
+    requires { (before % 64 ≡ 0) × Hashable (before + length text.now) × (j < blocks_in (length text.now))
+        × (length z.old ≡ 16) }
     ensures { z.new ≡ take 16 (drop (16 * j) (ending (SHA1 32) before text.now)) }
 {
     let mut w = 0;

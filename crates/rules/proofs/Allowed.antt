@@ -19,7 +19,8 @@ pub counted : (n : ℕ) → power n ≡ true → Taken n
 unfolding power
 counted n h = go (eqb n 1) (eqb n 2) (eqb n 4) (eqb n 8) refl refl refl refl h
   where
-    go : (a b c d : Bool) → eqb n 1 ≡ a → eqb n 2 ≡ b → eqb n 4 ≡ c → eqb n 8 ≡ d → either a (either b (either c d)) ≡ true → Taken n
+    go : (a b c d : Bool) → eqb n 1 ≡ a → eqb n 2 ≡ b → eqb n 4 ≡ c → eqb n 8 ≡ d
+        → either a (either b (either c d)) ≡ true → Taken n
     go true b c d ea eb ec ed q = subst Taken (sym (eqb-true n 1 ea)) one
     go false true c d ea eb ec ed q = subst Taken (sym (eqb-true n 2 eb)) two
     go false false true d ea eb ec ed q = subst Taken (sym (eqb-true n 4 ec)) four
@@ -87,4 +88,5 @@ unfolding same power_to
 one_bit zero h l = absurd (omega arith)
 one_bit (suc m) h l =
     let e : suc m - 1 ≡ m = omega arith in
-    rw e (same_true _ _ (each_to (λ m. same (eqb (bit_and (suc m) m) 0) (power_of_two (suc m))) 15 refl m (omega arith)))
+    rw e (same_true _ _ (each_to (λ m. same (eqb (bit_and (suc m) m) 0) (power_of_two (suc m))) 15 refl m
+    (omega arith)))

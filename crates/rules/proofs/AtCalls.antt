@@ -132,7 +132,8 @@ module _ (n : ℕ) (count : Allowed n) where
         (to_arith 32 (add 32) refresh x)
     to_arith_law =
         said (to_arith_rule 32 (add_draws 32) (add 32) adds refresh_draws refresh refresh_refreshes x sized small)
-        (ap (to_arith_draws (add_draws 32) refresh_draws) size ∙ omega (arith, add_count n, and_count n)) (λ z g. g ∙ size)
+        (ap (to_arith_draws (add_draws 32) refresh_draws) size ∙ omega (arith, add_count n, and_count n))
+        (λ z g. g ∙ size)
 
     pub to_arith_sums : (ws : List ℕ) → Words 32 ws → total (to_arith 32 (add 32) refresh x ws 0).0 % 2 ^ 32 ≡ opened x
     to_arith_sums ws = to_arith_keeps_lem 32 (lit< tt) x sized words ws 0

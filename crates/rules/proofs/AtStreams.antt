@@ -162,28 +162,30 @@ module _ (M : Masked) (proper : Proper M.standard) (chains : Chains M.standard)
       λ t b j i. bytes_are_words H.word_bytes 16 (drop j t) (words_drop 8 j t b) i in
       let end = holds_run keeps proper sixty-four KEY reads fs [] _ begin none bytes taken in
       let rest = words_drop 8 (length m / block_bytes H * block_bytes H) m bytes in
-      let tag = (tag_rule keeps proper sixty-four KEY m _ end some_shares (ending_words H proper _ _ rest)).makes vs 0 in
+      let tag = (tag_rule keeps proper sixty-four KEY m _ end some_shares (ending_words H proper _ _ rest)).makes vs 0
+      in
       finished_tag M _ came vs done ∙ tag.is
       ∙ ap (all_bytes H.word_bytes) (goods_open (λ x X g. (g.0, g.1)) tag.good)
       ∙ hmac_of_is H proper chains key keys m
 
 -- ==== the hashes of the calls: runs, at any width and, opened, at 32 bits
-module _ (k : ℕ) (h : 0 < k) (code n : ℕ) (key ws : List ℕ) (ok : (start_call (hash_of k code) n key ws).number ≡ 0) where
-  abbrev W : Masked
-  W = hash_of k code
+module _ (k : ℕ) (h : 0 < k) (code n : ℕ) (key ws : List ℕ) (ok : (start_call (hash_of k code) n key ws).number ≡ 0)
+  where
+    abbrev W : Masked
+    W = hash_of k code
 
-  abbrev u : State
-  u = (start_call W n key ws).state
+    abbrev u : State
+    u = (start_call W n key ws).state
 
-  pub hash_cuts : (fs gs : Feeds) → Accepted W u fs → Accepted W u gs → message fs ≡ message gs
-      → drawn W u fs ≡ drawn W u gs → after W u fs ≡ after W u gs
-  hash_cuts = cut_anyhow W (hash_proper k code) refl (hash_size k h code) n key ws ok
+    pub hash_cuts : (fs gs : Feeds) → Accepted W u fs → Accepted W u gs → message fs ≡ message gs
+        → drawn W u fs ≡ drawn W u gs → after W u fs ≡ after W u gs
+    hash_cuts = cut_anyhow W (hash_proper k code) refl (hash_size k h code) n key ws ok
 
-  pub hash_words : (fs : Feeds) → Accepted W u fs → (came vs : List ℕ)
-      → (let o = (finish_call W (after W u fs) came vs).0 in o.number ≡ 0
-      → (start_call W n key ws).drawn + length (drawn W u fs) + o.drawn
-      ≡ ((length (message fs) + 8) / 64 + 4) * W.draws n)
-  hash_words = all_words W (hash_proper k code) refl (hash_size k h code) n key ws ok
+    pub hash_words : (fs : Feeds) → Accepted W u fs → (came vs : List ℕ)
+        → (let o = (finish_call W (after W u fs) came vs).0 in o.number ≡ 0
+        → (start_call W n key ws).drawn + length (drawn W u fs) + o.drawn
+        ≡ ((length (message fs) + 8) / 64 + 4) * W.draws n)
+    hash_words = all_words W (hash_proper k code) refl (hash_size k h code) n key ws ok
 
 module _ (code : ℕ) where
   abbrev M : Masked

@@ -2,7 +2,8 @@
 use Prim.Native.Nat.{ℕ, zero, suc, ◌+◌, ◌*◌, ◌/◌, ◌%◌, ◌^◌, ◌≤◌, ◌<◌}
 use mathlib.Core.Path.{◌≡◌, refl, sym, ap, ap₂, ◌∙◌}
 use mathlib.Core.List.{List, [], ◌∷◌, ◌++◌, map}
-use native.Mathlib.Nat.{mod-lt, mod-eq_of_lt, zero-lt-suc, zero-add, suc-add, zero-mul, suc-mul, pow-suc, div-div-eq-div-mul}
+use native.Mathlib.Nat.{mod-lt, mod-eq_of_lt, zero-lt-suc, zero-add, suc-add, zero-mul, suc-mul, pow-suc}
+use native.Mathlib.Nat.{div-div-eq-div-mul}
 use native.Mathlib.Omega.{arith}
 use lib.Arith.{mod-mul}
 use lib.Bits.{bit_xor, xor_comm, xor_block}
@@ -79,7 +80,8 @@ pub length_all_bytes : (size : ℕ) (s : List ℕ) → length (all_bytes size s)
 unfolding all_bytes
 length_all_bytes size [] = sym (zero-mul size)
 length_all_bytes size (w ∷ s) =
-    length-append (bytes_of size w) (all_bytes size s) ∙ omega (arith, length_bytes_lem size w, length_all_bytes size s, suc-mul (length s) size)
+    length-append (bytes_of size w) (all_bytes size s) ∙ omega
+    (arith, length_bytes_lem size w, length_all_bytes size s, suc-mul (length s) size)
 
 -- ---- numbers and words of joined bytes
 number_append : (m : ℕ) (x y : List ℕ) → m ≤ length x → number_of m (x ++ y) ≡ number_of m x
@@ -129,7 +131,8 @@ byte_of (suc m) v zero j e = let q : m ≡ j = omega arith in rw q
 byte_of (suc m) v (suc i) j e = byte_of m v i j (omega arith)
 
 -- the first i of m bytes, with j after them
-number_front : (m v : ℕ) (rest : List ℕ) (i j : ℕ) → i + j ≡ m → number_of i (bytes_of m v ++ rest) ≡ v / 256 ^ j % 256 ^ i
+number_front : (m v : ℕ) (rest : List ℕ) (i j : ℕ) → i + j ≡ m
+    → number_of i (bytes_of m v ++ rest) ≡ v / 256 ^ j % 256 ^ i
 unfolding number_of
 number_front m v rest zero j e = sym (lit_one (v / 256 ^ j))
   where

@@ -78,7 +78,8 @@ module _ {S : Type 0} (tests : List Test) (rule : Draw S) (came : S) (ws : List 
   own : first (tests ++ (test 5 (leb (rule ws 0).1 (length ws)) ∷ [])) ≡ number
   own = sym (same_test tests [] 5 need (rule ws 0).1 (length ws) draws) ∙ is
 
-  pub refused : (number ≡ 0 → ⊥) → answer ≡ record { number = number; drawn = 0 } → call tests rule came ws ≡ (answer, came)
+  pub refused : (number ≡ 0 → ⊥) → answer ≡ record { number = number; drawn = 0 }
+      → call tests rule came ws ≡ (answer, came)
   unfolding call
   refused h e = rw (own, settled_refused number (rule ws 0).1 0 h, settled_refused number (rule ws 0).0 came h, e)
 

@@ -93,7 +93,8 @@ module _ {k n d : ℕ} {adder : Adder} {Fits : ℕ → Type 0} {Good : List ℕ 
   -- ---- the new chain, of c words
   module _ {c : ℕ} {h s H S : List ℕ} (gh : Goods Good c h H) (gs : Goods Good c s S) where
     sums_next : (i : ℕ) → i < c
-        → sums_of k (drop i H) (drop i S) ≡ plus k (get_or H i 0) (get_or S i 0) ∷ sums_of k (drop (i + 1) H) (drop (i + 1) S)
+        → sums_of k (drop i H) (drop i S) ≡ plus k (get_or H i 0) (get_or S i 0) ∷ sums_of k (drop (i + 1) H)
+        (drop (i + 1) S)
     unfolding sums_of
     sums_next i l = rw (
       add-one i,

@@ -395,7 +395,8 @@ module _ (k : ℕ) (d : ℕ → ℕ) (adder : Adder) (adds : Adds k d adder) whe
         let is = (add_x A.0 b.0 ib).makes ws b.1 in
         ((freshens (length x) s.0 is.0).makes ws s.1).1 ∙ is.1
 
-    pub to_arith_opens : (ws : List ℕ) (at : ℕ) → Words k ws → opened_sum k (to_arith k adder fresh x ws at).0 ≡ opened x
+    pub to_arith_opens : (ws : List ℕ) (at : ℕ) → Words k ws
+        → opened_sum k (to_arith k adder fresh x ws at).0 ≡ opened x
     unfolding to_arith total plus
     to_arith_opens ws at hw =
         let A = (next (length x - 1) ws at).0 in

@@ -17,7 +17,8 @@ pub b2a_length : (k x r g : ℕ) → length (b2a_record k x r g) ≡ 7
 unfolding b2a_record
 b2a_length k x r g = refl
 
-pub b2a_ends : (k x r g : ℕ) → x < 2 ^ k → r < 2 ^ k → g < 2 ^ k → get_or (b2a_record k x r g) 6 0 ≡ minus k (bit_xor x r) r
+pub b2a_ends : (k x r g : ℕ) → x < 2 ^ k → r < 2 ^ k → g < 2 ^ k
+    → get_or (b2a_record k x r g) 6 0 ≡ minus k (bit_xor x r) r
 unfolding b2a_record psi
 b2a_ends k x r g hx hr hg =
     ap (λ n. bit_xor n (bit_xor (psi k x g) x)) (psi_affine k x g r hx hg hr)

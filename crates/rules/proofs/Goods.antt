@@ -45,14 +45,16 @@ module _ {Good : List ℕ → ℕ → Type 0} where
         rw (e, drop-append-add x s (w * n)) (word_of w (omega arith) gs)
 
     -- the first p words, and those after them
-    pub goods_front : {m : ℕ} {s S : List ℕ} (p : ℕ) → p ≤ m → Goods Good m s S → Goods Good p (take (p * n) s) (take p S)
+    pub goods_front : {m : ℕ} {s S : List ℕ} (p : ℕ) → p ≤ m → Goods Good m s S
+        → Goods Good p (take (p * n) s) (take p S)
     goods_front zero h gs = rw (zero-mul n) none
     goods_front (suc p) h none = absurd (omega arith)
     goods_front (suc p) h (more {m} {X} {x} {s} g gs) =
         let e : suc p * n ≡ length x + p * n = omega (arith, suc-mul p n, size x X g) in
         rw (e, take-append-add x s (p * n)) (more g (goods_front p (omega arith) gs))
 
-    pub goods_rest : {m q : ℕ} {s S : List ℕ} (p : ℕ) → m ≡ p + q → Goods Good m s S → Goods Good q (drop (p * n) s) (drop p S)
+    pub goods_rest : {m q : ℕ} {s S : List ℕ} (p : ℕ) → m ≡ p + q → Goods Good m s S
+        → Goods Good q (drop (p * n) s) (drop p S)
     goods_rest {m} {q} {s} {S} zero e gs = rw (zero-mul n) (subst (λ i. Goods Good i s S) (e ∙ zero-add q) gs)
     goods_rest (suc p) e none = absurd (omega arith)
     goods_rest (suc p) e (more {m} {X} {x} {s} g gs) =
@@ -69,7 +71,8 @@ module _ {Good : List ℕ → ℕ → Type 0} where
 
   -- any shares, cut into words
   pub goods_of : (n m : ℕ) (s : List ℕ) → length s ≡ m * n
-      → ((i : ℕ) (x : List ℕ) → length x ≡ n → opened x ≡ get_or (open_words n m s) i 0 → Good x (get_or (open_words n m s) i 0))
+      → ((i : ℕ) (x : List ℕ) → length x ≡ n → opened x ≡ get_or (open_words n m s) i 0
+      → Good x (get_or (open_words n m s) i 0))
       → Goods Good m s (open_words n m s)
   unfolding open_words
   goods_of n zero [] l h = none
@@ -77,4 +80,5 @@ module _ {Good : List ℕ → ℕ → Type 0} where
   goods_of n (suc m) s l h =
       let left : length (drop n s) ≡ m * n = length-drop n s ∙ omega (arith, suc-mul m n) in
       subst (λ t. Goods Good (suc m) t (open_words n (suc m) s)) (take-append-drop n s)
-      (more (h 0 (take n s) (length-take-le n s (omega (arith, suc-mul m n))) refl) (goods_of n m (drop n s) left (λ i. h (suc i))))
+      (more (h 0 (take n s) (length-take-le n s (omega (arith, suc-mul m n))) refl)
+      (goods_of n m (drop n s) left (λ i. h (suc i))))

@@ -18,7 +18,8 @@ use Rattle.rules.specs.Shares.{each}
 use Rattle.rules.specs.Hash.{Hash, block_bytes, chain_words, digest_bytes, words_of, all_bytes, padding, ended, ending}
 use Rattle.rules.specs.Hash.{blocks, digest, key_block, hmac}
 use Rattle.rules.specs.Hmac.{every_byte, digest_padding}
-use Rattle.rules.proofs.Bytes.{words_join, words_zeros, bytes_are_words, padding_is_bytes, length_words, length_all_bytes}
+use Rattle.rules.proofs.Bytes.{words_join, words_zeros, bytes_are_words, padding_is_bytes, length_words}
+use Rattle.rules.proofs.Bytes.{length_all_bytes}
 use Rattle.rules.proofs.Bytes.{words_append, words_back, words_xor, words_alike, bytes_alike, map_each}
 use Rattle.rules.proofs.Bytes.{all_bytes_are_bytes}
 
@@ -188,12 +189,14 @@ module _ (H : Hash) (proper : Proper H) where
         parts a b e = sym (add-mul a b size) ∙ ap (λ t. t * size) e ∙ mul_comm 16 size
 
     pub digest_last : (x : List ℕ) → length x ≡ B
-        → digest H (x ++ all_bytes size D) ≡ all_bytes size (H.compress (H.compress H.start (words_of size 16 x)) (D ++ digest_padding H))
+        → digest H (x ++ all_bytes size D) ≡ all_bytes size
+        (H.compress (H.compress H.start (words_of size 16 x)) (D ++ digest_padding H))
     digest_last x block =
         let W = D ++ digest_padding H in
         let sixteen : length W ≡ 16 =
         length-append D (digest_padding H)
-        ∙ omega (arith, chain.0, proper.short, length_words size (16 - chain_words H) (padding H (B + digest_bytes H))) in
+        ∙ omega (arith, chain.0, proper.short, length_words size (16 - chain_words H) (padding H (B + digest_bytes H)))
+        in
         digest_front x (all_bytes size D) block W (sym last_words)
         ∙ rw (sixteen, blocks_one W (H.compress H.start (words_of size 16 x)) sixteen)
 
@@ -242,7 +245,8 @@ module _ (H : Hash) (proper : Proper H) where
     key_bytes = words_join 8 short (replicate (B - length short) 0) short_bytes (words_zeros 8 (B - length short))
 
     -- over the key's words it is the standard's HMAC
-    pub hmac_of_is : (text : List ℕ) → all_bytes size (hmac_of H (words_of size 16 (key_block H key)) text) ≡ hmac H key text
+    pub hmac_of_is : (text : List ℕ) → all_bytes size (hmac_of H (words_of size 16 (key_block H key)) text)
+        ≡ hmac H key text
     unfolding hmac_of hmac
     hmac_of_is text =
         let b = key_block H key in
@@ -259,7 +263,8 @@ module _ (H : Hash) (proper : Proper H) where
         xored v = length-map (key_block H key) (bit_xor v) ∙ key_length
 
         marks : (v : ℕ) → v < 256
-            → words_of size 16 (map (bit_xor v) (key_block H key)) ≡ keyed_words H v (words_of size 16 (key_block H key))
+            → words_of size 16 (map (bit_xor v) (key_block H key))
+            ≡ keyed_words H v (words_of size 16 (key_block H key))
         marks v h =
             let b = key_block H key in
             let same : List ℕ = replicate B v in

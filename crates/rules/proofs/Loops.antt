@@ -48,8 +48,8 @@ module _ (step : Step) (ws z y : List ℕ) (at q s : ℕ) (e : Run) where
       let more : n - j ≡ suc (n - (j + 1)) = omega arith in
       rw (k, f, g) (rw more at p)
 
--- from pair (i, j), or from row i on: what is left of the walk over n shares, run on z with the words from p on, comes to
--- what the whole row made of z₀, or the whole walk, with those from `at` on
+-- from pair (i, j), or from row i on: what is left of the walk over n shares, run on z with the words from p on,
+-- comes to what the whole row made of z₀, or the whole walk, with those from `at` on
 abbrev pub RowFrom : Step → ℕ → ℕ → List ℕ → List ℕ → ℕ → List ℕ → ℕ → ℕ → Type 0
 RowFrom step n i z₀ ws at z p j =
     let row = n - (i + 1) in
@@ -214,7 +214,8 @@ module _ (f : ℕ → ℕ → ℕ) (x y u z : List ℕ) (i n : ℕ)
   size_two = length_each f x y (right ∙ sym left) ∙ left
 
   pub each_three_next : i < n → take i z ≡ take i (each f (each f x y) u)
-      → take (i + 1) (set z i (f (f (get_or x i 0) (get_or y i 0)) (get_or u i 0))) ≡ take (i + 1) (each f (each f x y) u)
+      → take (i + 1) (set z i (f (f (get_or x i 0) (get_or y i 0)) (get_or u i 0)))
+      ≡ take (i + 1) (each f (each f x y) u)
   each_three_next h p =
       rw (← each_at f x y (right ∙ sym left) i (omega arith)) (each_next f n (each f x y) u z i size_two third room h p)
 
@@ -317,10 +318,6 @@ split_made value at p mask s ws m h e f =
     let drawn : next last ws at ≡ (m, p) = rw (sub-zero last, length-take-le last s (omega arith)) at e in
     let front : length m ≡ last = sym (ap (λ (r : Run). length r.0) drawn) ∙ (next_rule last).makes ws at in
     rw (sub-zero last, drawn, f, set_last m s (bit_xor value (opened m)) last front (omega arith))
-
--- ---- an array that is handed over, as the checker knows it
-pub array_length : {m : ℕ} (a : List ℕ) → length (map (λ (v : ℕ). v) a) ≡ m → length a ≡ m
-array_length a e = sym (length-map a (λ (v : ℕ). v)) ∙ e
 
 -- of a chain's record the words in use
 pub length_used : (H : Hash) (n : ℕ) (chain : List ℕ) → chain_words H * n ≤ length chain

@@ -1,5 +1,5 @@
--- Masked HMAC over any hash in shares, once for all that is said of it: `Good x X` is what is kept of the shares x of the word X.
--- Of any Good that the hash keeps, HMAC keeps it, draws so many words, and no other word has a say.
+-- Masked HMAC over any hash in shares, once for all that is said of it: `Good x X` is what is kept of the shares x of
+-- the word X. Of any Good that the hash keeps, HMAC keeps it, draws so many words, and no other word has a say.
 use Prim.Native.Nat.{ℕ, zero, suc, ◌+◌, ◌-◌, ◌*◌, ◌/◌, ◌^◌, ◌<◌}
 use mathlib.Core.Path.{◌≡◌, refl, sym, ap, subst, ◌∙◌}
 use mathlib.Core.List.{List, [], ◌∷◌, ◌++◌}
@@ -114,7 +114,8 @@ module _ {M : Masked} {n : ℕ} {Fits : ℕ → Type 0} {Good : List ℕ → ℕ
 
     pub hmac_rule : {key KEY : List ℕ} (text : List ℕ) → ((i : ℕ) → Fits (get_or (ending H (block_bytes H) text) i 0))
         → Goods Good 16 key KEY
-        → Rule (compressions H (length text) * M.draws n) (λ z. Goods Good c z (hmac_of H KEY text)) (hmac_shares M n key text)
+        → Rule (compressions H (length text) * M.draws n) (λ z. Goods Good c z (hmac_of H KEY text))
+        (hmac_shares M n key text)
     unfolding hmac_shares hmac_of
     hmac_rule text u g =
         let d = M.draws n in

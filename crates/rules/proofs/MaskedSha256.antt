@@ -119,7 +119,8 @@ module _ {k n d : ℕ} {adder : Adder} {Fits : ℕ → Type 0} {Good : List ℕ 
   compress_rule {h} {H} {block} {B} gh gb =
       counted
       (bind (schedule_rule 48 (omega arith) gb) (λ u gu.
-      bind (rounds_rule keeps cost (round k adder n) (round_of k) round_rule u (schedule_of (following_of k) 48 B) 64 0 h H
+      bind (rounds_rule keeps cost (round k adder n) (round_of k) round_rule u (schedule_of (following_of k) 48 B)
+      64 0 h H
       (λ i l. part keeps i (omega arith) gu) gh) (λ s gs.
       sums_rule keeps gh gs 8 0 [] [] (omega arith) none)))
       (omega (arith, all_rounds 64 0))

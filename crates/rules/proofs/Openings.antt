@@ -35,7 +35,8 @@ opened_lt k [] h = pow_pos k
 opened_lt k (a ∷ x) h = xor_lt k a (opened x) (h 0) (opened_lt k x (λ i. h (suc i)))
 
 -- one entry changed by s
-pub opened_set : (z : List ℕ) (i s : ℕ) → i < length z → opened (set z i (bit_xor (get_or z i 0) s)) ≡ bit_xor s (opened z)
+pub opened_set : (z : List ℕ) (i s : ℕ) → i < length z → opened (set z i (bit_xor (get_or z i 0) s))
+    ≡ bit_xor s (opened z)
 unfolding opened
 opened_set [] i s h = absurd (omega arith)
 opened_set (a ∷ z) zero s h = bits (a ∷ s ∷ opened z ∷ []) (v 0 ⊕ v 1 ⊕ v 2) (v 1 ⊕ (v 0 ⊕ v 2)) tt

@@ -30,7 +30,8 @@ use Rattle.rules.proofs.Sizes.{hash_keeps}
 abbrev pub Masks : ℕ → ℕ → List ℕ → ℕ → Type 0
 Masks k n x X = (length x ≡ n) × (opened x ≡ X) × (X < 2 ^ k)
 
-pub masks : (k n m : ℕ) (s : List ℕ) → length s ≡ m * n → Words k (open_words n m s) → Goods (Masks k n) m s (open_words n m s)
+pub masks : (k n m : ℕ) (s : List ℕ) → length s ≡ m * n → Words k (open_words n m s)
+    → Goods (Masks k n) m s (open_words n m s)
 masks k n m s l u = goods_of n m s l (λ i x h e. (h, e, u i))
 
 module _ (k n : ℕ) (some : 0 < n) where

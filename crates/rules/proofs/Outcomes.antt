@@ -1,5 +1,5 @@
--- What a call comes to, over any tests and any rule: which number it gives, what it leaves, which words have no say in it,
--- what it makes. crates/claims says it of each call.
+-- What a call comes to, over any tests and any rule: which number it gives, what it leaves, which words have no say
+-- in it, what it makes. crates/claims says it of each call.
 use Prim.Native.Nat.{ℕ, zero, suc, ◌≤◌}
 use mathlib.Core.Path.{◌≡◌, refl, sym, ap, ap₂, ◌∙◌, subst}
 use mathlib.Core.Bool.{Bool, true, false}

@@ -117,7 +117,12 @@ module _ (x y : List ℕ) (same : length y ≡ length x) where
       → crossed x y (along m i j)
       ≡ bit_xor (bit_and (get_or x i 0) (opened (drop j y))) (bit_and (opened (drop j x)) (get_or y i 0))
   unfolding along crossed
-  crossed_along zero i j e = rw (opened_past y j (omega arith), opened_past x j (omega arith), and_zero_r (get_or x i 0))
+  crossed_along zero i j e = rw (
+    opened_past y j (omega arith),
+    opened_past x j (omega arith),
+    and_zero_r
+        (get_or x i 0),
+  )
   crossed_along (suc m) i j e =
       let xs = opened (drop (j + 1) x) in
       let ys = opened (drop (j + 1) y) in
@@ -151,7 +156,8 @@ module _ (x y : List ℕ) (same : length y ≡ length x) where
       (bits (a ∷ b ∷ xs ∷ ys ∷ rest ∷ d ∷ [])
       (v 0 ⊗ v 3 ⊕ v 2 ⊗ v 1 ⊕ v 4 ⊕ (v 0 ⊗ v 1 ⊕ v 5))
       (v 0 ⊗ v 3 ⊕ v 2 ⊗ v 1 ⊕ v 0 ⊗ v 1 ⊕ (v 4 ⊕ v 5)) tt
-      ∙ ap (bit_xor (bit_xor (bit_xor (bit_and a ys) (bit_and xs b)) (bit_and a b))) (crossed_order m (i + 1) (omega arith))
+      ∙ ap (bit_xor (bit_xor (bit_xor (bit_and a ys) (bit_and xs b)) (bit_and a b)))
+      (crossed_order m (i + 1) (omega arith))
       ∙ bits (a ∷ b ∷ xs ∷ ys ∷ []) (v 0 ⊗ v 3 ⊕ v 2 ⊗ v 1 ⊕ v 0 ⊗ v 1 ⊕ v 2 ⊗ v 3) ((v 0 ⊕ v 2) ⊗ (v 1 ⊕ v 3)) tt)
 
 -- with the cross terms that are still to come, z opens to the and

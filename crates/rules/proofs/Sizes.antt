@@ -46,7 +46,8 @@ rounds_ands_is a (suc m) t = omega (arith, rounds_ands_is a m (t + 1), suc-mul m
 sha1_is : (ands n : ℕ) → sha1_of (ands * and_draws n) n ≡ compress_ands ands * and_draws n
 unfolding compress_ands
 sha1_is ands n =
-    let e : rounds_ands ands 80 0 + 5 * ands ≡ rounds_ands 0 80 0 + 325 * ands = omega (arith, rounds_ands_is ands 80 0) in
+    let e : rounds_ands ands 80 0 + 5 * ands ≡ rounds_ands 0 80 0 + 325 * ands =
+    omega (arith, rounds_ands_is ands 80 0) in
     rw (e, add-zero (rounds_ands 0 80 0))
     (omega (arith, add-mul (rounds_ands 0 80 0) (325 * ands) (and_draws n), mul_assoc 325 ands (and_draws n)))
 
@@ -115,7 +116,8 @@ module _ (M : Masked) (n : ℕ) (some : 0 < n) (keeps : KeepsHash M n (λ v. Uni
   pub compress_sized : (h block : List ℕ) → length h ≡ chain_words H * n → length block ≡ 16 * n
       → Rule (M.draws n) (λ z. length z ≡ chain_words H * n) (M.compress n h block)
   compress_sized h block lh lb =
-      said (keeps.compresses (words_size (chain_words H) h lh) (words_size 16 block lb)) refl (λ z g. goods_size keeps.size g)
+      said (keeps.compresses (words_size (chain_words H) h lh) (words_size 16 block lb)) refl
+      (λ z g. goods_size keeps.size g)
 
   pub split_key_sized : Proper H → (key : List ℕ)
       → Rule (key_draws M n (length key)) (λ z. length z ≡ 16 * n) (split_key M n key)
@@ -123,7 +125,8 @@ module _ (M : Masked) (n : ℕ) (some : 0 < n) (keeps : KeepsHash M n (λ v. Uni
       said (split_key_rule keeps proper some key (λ m i. tt)) refl (λ z g. goods_size keeps.size g)
 
   module _ (proper : Proper H) (key text : List ℕ) (size : length key ≡ 16 * n) where
-    pub hmac_shares_sized : Rule (hmac_draws M n (length text)) (λ z. length z ≡ chain_words H * n) (hmac_shares M n key text)
+    pub hmac_shares_sized : Rule (hmac_draws M n (length text)) (λ z. length z ≡ chain_words H * n)
+        (hmac_shares M n key text)
     hmac_shares_sized =
         said (hmac_rule keeps proper some text (λ i. tt) (words_size 16 key size)) refl (λ z g. goods_size keeps.size g)
 
@@ -133,7 +136,8 @@ module _ (M : Masked) (n : ℕ) (some : 0 < n) (keeps : KeepsHash M n (λ v. Uni
         counted
         (bind hmac_shares_sized (λ z g.
         give (λ t. length t ≡ digest_bytes H) (all_bytes H.word_bytes (open_words n (chain_words H) z))
-        (length_all_bytes H.word_bytes (open_words n (chain_words H) z) ∙ ap (λ t. t * H.word_bytes) (length_open n (chain_words H) z))))
+        (length_all_bytes H.word_bytes (open_words n (chain_words H) z)
+        ∙ ap (λ t. t * H.word_bytes) (length_open n (chain_words H) z))))
         (omega arith)
 
 -- ---- in closed form

@@ -1,12 +1,12 @@
 -- The streaming calls on any state that has its type's sizes: what their rules draw where their tests are passed.
 use Prim.Native.Nat.{ℕ, ◌+◌, ◌*◌, ◌%◌, ◌≤◌, ◌<◌}
-use mathlib.Core.Path.{◌≡◌, refl, sym, ap, ◌∙◌}
+use mathlib.Core.Path.{◌≡◌, refl, ap, ◌∙◌}
 use mathlib.Core.Bool.{Bool, true}
-use mathlib.Core.List.{List, [], ◌∷◌, map}
+use mathlib.Core.List.{List, [], ◌∷◌}
 use native.Mathlib.Nat.{zero-add}
 use native.Mathlib.Omega.{arith}
 use lib.Dec.{lit<, eqb, leb}
-use lib.ListN.{length, length-map}
+use lib.ListN.{length}
 use lib.Seq.{length-take-le}
 use borrow.Author.Tests.{eqb-true, leb-true}
 use Rattle.rules.specs.declared.Answer.{Answer}
@@ -37,7 +37,6 @@ use Rattle.rules.proofs.Tags.{hash_proper}
 use Rattle.rules.proofs.Streaming.{start_rule, feed_reads, finish_reads, fed_rule, finished_rule, rest_size}
 use Rattle.rules.proofs.Streaming.{made_whole}
 use Rattle.rules.proofs.Calls.{passed, holds, one_more, tells, settled_refused, refused, done}
-use Rattle.rules.proofs.Loops.{array_length}
 use Rattle.rules.proofs.Tested.{needs, taken, fits}
 
 module _ (M : Masked) (s : State) (some : 0 < s.n) (keeps : Keeps M s.n (λ v. Unit {0}) (Sized s.n))
@@ -161,16 +160,11 @@ module _ (code : ℕ) where
 
   -- ---- each rule draws what its query tells, of any state that has its type's sizes
   module _ (s : State) (ws : List ℕ) (q : Answer) where
-    module _ (inner : length (map (λ (v : ℕ). v) s.inner.shares) ≡ state_room)
-        (outer : length (map (λ (v : ℕ). v) s.outer.shares) ≡ state_room)
-        (tail : length (map (λ (v : ℕ). v) s.tail) ≡ 64) where
+    module _ (inner : length s.inner.shares ≡ state_room)
+        (outer : length s.outer.shares ≡ state_room)
+        (tail : length s.tail ≡ 64) where
       whole : Whole s
-      whole =
-          record {
-            inner_whole = array_length s.inner.shares inner;
-            outer_whole = array_length s.outer.shares outer;
-            tail_whole = sym (length-map s.tail (λ (v : ℕ). v)) ∙ tail;
-          }
+      whole = record { inner_whole = inner; outer_whole = outer; tail_whole = tail }
 
       counted : is_fit M s ≡ true → allowed s.n ≡ true
       counted h = (fits M s.n s.bytes s.drawn s.finished s.hash h).0
@@ -204,8 +198,8 @@ module _ (code : ℕ) where
       fed_number =
           feed_tests s.n s.bytes s.drawn s.finished s.hash (length ws) number q (length piece) e is
 
-      pub feed_refused : length (map (λ (v : ℕ). v) s.inner.shares) ≡ state_room
-          → length (map (λ (v : ℕ). v) s.outer.shares) ≡ state_room → length (map (λ (v : ℕ). v) s.tail) ≡ 64
+      pub feed_refused : length s.inner.shares ≡ state_room
+          → length s.outer.shares ≡ state_room → length s.tail ≡ 64
           → (number ≡ 0 → ⊥) → feed_call M s piece ws ≡ streamed (fed_answer (Refused number)) s
       unfolding feed_call
       feed_refused inner outer tail h =
@@ -233,8 +227,8 @@ module _ (code : ℕ) where
       finished_number =
           finish_tests s.n s.bytes s.drawn s.finished s.hash (length ws) number q (length came) e is
 
-      pub finish_refused : length (map (λ (v : ℕ). v) s.inner.shares) ≡ state_room
-          → length (map (λ (v : ℕ). v) s.outer.shares) ≡ state_room → length (map (λ (v : ℕ). v) s.tail) ≡ 64
+      pub finish_refused : length s.inner.shares ≡ state_room
+          → length s.outer.shares ≡ state_room → length s.tail ≡ 64
           → (number ≡ 0 → ⊥) → r ≡ record { number = number; drawn = 0; state = s }
           → finish_call M s came ws ≡ (r, came)
       unfolding finish_call

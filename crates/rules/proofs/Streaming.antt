@@ -265,7 +265,8 @@ module _ (M : Masked) (n bytes : ℕ) (inner outer waits : List ℕ) where
     unfolding state
     made_waits = take_at waits _ (bytes % block_bytes U) made.waits_size
 
-    pub made_fed : (piece ws : List ℕ) (at : ℕ) → feed M s piece ws at ≡ fed_from M n bytes inner outer waits piece ws at
+    pub made_fed : (piece ws : List ℕ) (at : ℕ) → feed M s piece ws at
+        ≡ fed_from M n bytes inner outer waits piece ws at
     unfolding state
     made_fed piece ws at = feed_reads M s piece ws at ∙ rw (made_inner, made_outer, made_waits)
 

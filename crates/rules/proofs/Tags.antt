@@ -45,14 +45,16 @@ module _ (M : Masked) (n : ℕ) (some : 0 < n) (proper : Proper M.standard) (cha
   -- the tag, from shares that open to the key block
   pub hmac_tag_is : Opens
       → (key text shares ws : List ℕ) (at : ℕ) → Words 8 key → Words 8 text → length shares ≡ 16 * n
-      → open_words n 16 shares ≡ words_of H.word_bytes 16 (key_block H key) → (hmac_tag M n shares text ws at).0 ≡ hmac H key text
+      → open_words n 16 shares ≡ words_of H.word_bytes 16 (key_block H key)
+      → (hmac_tag M n shares text ws at).0 ≡ hmac H key text
   unfolding hmac_tag
   hmac_tag_is keeps key text shares ws at keys texts size shared =
       let small : Words k (open_words n 16 shares) =
       rw shared (bytes_are_words H.word_bytes 16 (key_block H key) (key_bytes H proper chains key keys)) in
       let rule = hmac_rule keeps proper some text (ending_words H proper (block_bytes H) text texts)
       (masks k n 16 shares size small) in
-      ap (all_bytes H.word_bytes) (goods_open (λ x X g. (g.0, g.1)) (rule.makes ws at) ∙ ap (λ t. hmac_of H t text) shared)
+      ap (all_bytes H.word_bytes) (goods_open (λ x X g. (g.0, g.1)) (rule.makes ws at)
+      ∙ ap (λ t. hmac_of H t text) shared)
       ∙ hmac_of_is H proper chains key keys text
 
 -- ---- both hashes are proper

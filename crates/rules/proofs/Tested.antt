@@ -83,7 +83,8 @@ module _ {n have number : ℕ} {q : Answer} where
     short_ready = counted_ready power power_within (λ n. n)
 
     pub two_ready : {z : ℕ} → query (test 1 (allowed n) ∷ []) (d n) ≡ q
-        → first (test 1 (allowed n) ∷ test 2 (both (eqb x n) (eqb y n)) ∷ test 3 (eqb z n) ∷ test 5 (leb q.drawn have) ∷ []) ≡ number
+        → first (test 1 (allowed n) ∷ test 2 (both (eqb x n) (eqb y n)) ∷ test 3 (eqb z n) ∷ test 5 (leb q.drawn have)
+        ∷ []) ≡ number
         → number ≡ 0 → (x ≡ n) × (y ≡ n) × (z ≡ n) × Ready largest x (d x) have
     two_ready {z} e is h =
         let p = passed _ (is ∙ h) in
@@ -109,7 +110,8 @@ module _ {n have number : ℕ} {q : Answer} where
         (eqb-true x (16 * n) (holds _ _ p.1.0), ready drawn have q _ e (taken count) (within n count) p.1.1.0)
 
   module _ {drawn : ℕ} {fits : Bool} (e : query (test 1 (allowed n) ∷ test 4 fits ∷ []) drawn ≡ q) {x : ℕ} where
-    pub key_ready : first (test 1 (allowed n) ∷ test 3 (eqb x (16 * n)) ∷ test 4 fits ∷ test 5 (leb q.drawn have) ∷ []) ≡ number
+    pub key_ready : first (test 1 (allowed n) ∷ test 3 (eqb x (16 * n)) ∷ test 4 fits ∷ test 5 (leb q.drawn have) ∷ [])
+        ≡ number
         → number ≡ 0 → (x ≡ 16 * n) × (fits ≡ true) × Ready largest n drawn have
     key_ready is z =
         let p = passed _ (is ∙ z) in
@@ -119,7 +121,8 @@ module _ {n have number : ℕ} {q : Answer} where
         (eqb-true x (16 * n) (holds _ _ p.1.0), short, room)
 
     pub tag_ready : {sized : Bool}
-        → first (test 1 (allowed n) ∷ test 2 (eqb x (16 * n)) ∷ test 3 sized ∷ test 4 fits ∷ test 5 (leb q.drawn have) ∷ []) ≡ number
+        → first (test 1 (allowed n) ∷ test 2 (eqb x (16 * n)) ∷ test 3 sized ∷ test 4 fits ∷ test 5 (leb q.drawn have)
+        ∷ []) ≡ number
         → number ≡ 0 → (x ≡ 16 * n) × (sized ≡ true) × (fits ≡ true) × Ready largest n drawn have
     tag_ready is z =
         let p = passed _ (is ∙ z) in
@@ -175,7 +178,8 @@ module _ (n : ℕ) (came ws : List ℕ) (q : Answer) where
           (refresh_rule n x (eqb-true (length x) n (holds _ _ p.1.0)))
 
       module _ (w : (i : ℕ) → Fits w32 (get_or x i 0)) where
-        pub to_bool_needs : query (test 1 (allowed n) ∷ []) (to_bool_draws (add_draws 32) n) ≡ q → (to_bool (add 32) x ws 0).1 ≡ q.drawn
+        pub to_bool_needs : query (test 1 (allowed n) ∷ []) (to_bool_draws (add_draws 32) n) ≡ q
+            → (to_bool (add 32) x ws 0).1 ≡ q.drawn
         to_bool_needs e =
             let p = passed _ h in
             let count = holds _ _ p.0 in
@@ -194,7 +198,8 @@ module _ (n : ℕ) (came ws : List ℕ) (q : Answer) where
             let secret = opened_lt 32 x (λ i. (w i).fits) in
             let added = add_adds 32 (omega arith) in
             needs (to_arith_draws (add_draws 32) refresh_draws (length x)) q _ ws (rw size e) (taken count)
-            (to_arith_rule 32 (add_draws 32) (add 32) added refresh_draws refresh refresh_refreshes x (omega arith) secret)
+            (to_arith_rule 32 (add_draws 32) (add 32) added refresh_draws refresh refresh_refreshes x (omega arith)
+            secret)
 
     pub to_arith_short_needs : first (one_tests (power n) n n x came) ≡ 0
         → query (test 1 (power n) ∷ []) (short_draws n) ≡ q → (to_arith_short 32 x ws 0).1 ≡ q.drawn
@@ -214,12 +219,14 @@ module _ (n : ℕ) (came ws : List ℕ) (q : Answer) where
       count_two = holds _ _ (passed _ h).0
 
       sizes_two : (length x ≡ n) × (length y ≡ n)
-      sizes_two = let s = both_true _ _ (holds _ _ (passed _ h).1.0) in (eqb-true (length x) n s.0, eqb-true (length y) n s.1)
+      sizes_two = let s = both_true _ _ (holds _ _ (passed _ h).1.0) in
+          (eqb-true (length x) n s.0, eqb-true (length y) n s.1)
 
       pub and_needs : query (test 1 (allowed n) ∷ []) (and_draws n) ≡ q → (and x y ws 0).1 ≡ q.drawn
       and_needs e = needs (and_draws n) q _ ws e (taken count_two) (and_rule n x y sizes_two.0 sizes_two.1)
 
-      pub add_needs : (k : ℕ) → 0 < k → query (test 1 (allowed n) ∷ []) (add_draws k n) ≡ q → (add k x y ws 0).1 ≡ q.drawn
+      pub add_needs : (k : ℕ) → 0 < k → query (test 1 (allowed n) ∷ []) (add_draws k n) ≡ q
+          → (add k x y ws 0).1 ≡ q.drawn
       add_needs k wide e =
           needs (add_draws k n) q _ ws e (taken count_two) (add_loop_rule k n x y wide sizes_two.0 sizes_two.1)
 
@@ -231,7 +238,8 @@ module _ (code n : ℕ) (came ws : List ℕ) (q : Answer) where
   keeps count = hash_size 32 (omega arith) code n (within n count).0
 
   pub split_key_needs : (key : List ℕ)
-      → first (test 1 (allowed n) ∷ test 3 (eqb (length came) (16 * n)) ∷ test 4 (leb (length key) longest_key) ∷ []) ≡ 0
+      → first (test 1 (allowed n) ∷ test 3 (eqb (length came) (16 * n)) ∷ test 4 (leb (length key) longest_key) ∷ [])
+      ≡ 0
       → query (test 1 (allowed n) ∷ test 4 (leb (length key) longest_key) ∷ []) (key_draws M n (length key)) ≡ q
       → (split_key M n key ws 0).1 ≡ q.drawn
   split_key_needs key h e =
@@ -274,12 +282,14 @@ refresh_copied x y ws r e f = rw (← e) f
 pub split_sized : (n value need have number : ℕ) (came ws : List ℕ) (r : List ℕ × ℕ)
     → first (test 1 (allowed n) ∷ test 3 (eqb (length came) n) ∷ test 5 (leb need have) ∷ []) ≡ number → number ≡ 0
     → split (length came) value ws 0 ≡ r → split n value ws 0 ≡ r
-split_sized n value need have number came ws r is z e = rw (eqb-true (length came) n (holds _ _ (passed _ (is ∙ z)).1.0)) at e
+split_sized n value need have number came ws r is z e = rw
+    (eqb-true (length came) n (holds _ _ (passed _ (is ∙ z)).1.0)) at e
 
 -- ---- an opening
-module _ (n number word : ℕ) (x : List ℕ) (is : first (test 1 (allowed n) ∷ test 2 (eqb (length x) n) ∷ []) ≡ number) where
-  pub not_opened : (number ≡ 0 → ⊥) → open_call n x word ≡ record { number = number; word = 0 }
-  not_opened h = rw (is, settled_refused number word 0 h)
+module _ (n number word : ℕ) (x : List ℕ) (is : first (test 1 (allowed n) ∷ test 2 (eqb (length x) n) ∷ []) ≡ number)
+  where
+    pub not_opened : (number ≡ 0 → ⊥) → open_call n x word ≡ record { number = number; word = 0 }
+    not_opened h = rw (is, settled_refused number word 0 h)
 
-  pub was_opened : (opened : ℕ) → number ≡ 0 → opened ≡ word → open_call n x word ≡ record { number = 0; word = opened }
-  was_opened opened h e = rw (is, h, e)
+    pub was_opened : (opened : ℕ) → number ≡ 0 → opened ≡ word → open_call n x word ≡ record { number = 0; word = opened }
+    was_opened opened h e = rw (is, h, e)

@@ -1,4 +1,5 @@
--- The outcome of each public call, at a width k: its answer, and every lent buffer afterwards. `came` is what the output slice held.
+-- The outcome of each public call, at a width k: its answer, and every lent buffer afterwards. `came` is what the
+-- output slice held.
 use Rattle.std.specs.Prelude.{ℕ, ◌+◌, ◌-◌, ◌*◌, Bool, true, false, List, [], ◌∷◌, ◌++◌, eqb, leb, length}
 use Rattle.std.specs.Int.Bits.{bit_xor}
 use Rattle.words.specs.Word.{Width, Word, plus, minus}

@@ -1,5 +1,6 @@
 -- Section 5: the conversions of n shares. The addition and the refresh that they use are parameters.
-use Rattle.std.specs.Prelude.{ℕ, zero, suc, ◌-◌, ◌/◌, ◌^◌, Bool, [], ◌∷◌, ◌++◌, map, eqb, leb, length, take, drop, replicate}
+use Rattle.std.specs.Prelude.{ℕ, zero, suc, ◌-◌, ◌/◌, ◌^◌, Bool, [], ◌∷◌, ◌++◌, map, eqb, leb, length, take, drop}
+use Rattle.std.specs.Prelude.{replicate}
 use Rattle.words.specs.Word.{Width, minus}
 use Rattle.rules.specs.Supply.{Count, Sharing, Draw, next, opened}
 use Rattle.rules.specs.Numbers.{choose, either}

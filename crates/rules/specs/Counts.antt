@@ -37,7 +37,8 @@ to_bool_draws_in d zero n = 0
 to_bool_draws_in d (suc deep) n =
     let left = n / 2 in
     let right = n - n / 2 in
-    let halves = to_bool_draws_in d deep left + widen_draws n left + (to_bool_draws_in d deep right + widen_draws n right) in
+    let halves = to_bool_draws_in d deep left + widen_draws n left
+    + (to_bool_draws_in d deep right + widen_draws n right) in
     choose (leb n 1) 0 (halves + d n)
 
 unfoldable pub to_bool_draws : (Count → ℕ) → Count → ℕ

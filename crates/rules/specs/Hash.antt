@@ -1,5 +1,7 @@
--- FIPS 180-4, what its hashes have in common, and RFC 2104 over any of them, unmasked. Numbers are the standards' sections.
-use Rattle.std.specs.Prelude.{ℕ, zero, suc, ◌+◌, ◌-◌, ◌*◌, ◌/◌, ◌%◌, ◌^◌, List, [], ◌∷◌, ◌++◌, map, leb, length, get_or, replicate, take, drop}
+-- FIPS 180-4, what its hashes have in common, and RFC 2104 over any of them, unmasked. Numbers are the standards'
+-- sections.
+use Rattle.std.specs.Prelude.{ℕ, zero, suc, ◌+◌, ◌-◌, ◌*◌, ◌/◌, ◌%◌, ◌^◌, List, [], ◌∷◌, ◌++◌, map, leb, length}
+use Rattle.std.specs.Prelude.{get_or, replicate, take, drop}
 use Rattle.std.specs.Int.Bits.{bit_xor}
 use Rattle.words.specs.Word.{Width, Word, plus}
 use Rattle.rules.specs.Numbers.{choose}
@@ -7,8 +9,8 @@ use Rattle.rules.specs.Numbers.{choose}
 abbrev pub Bytes : Type 0
 Bytes = List ℕ
 
--- What the hashes differ in: the bytes of a word, the starting chain (5.3), the chain after one block of 16 words (6), and the
--- bytes of the padding's length field (5.1). The digest is the whole chain.
+-- What the hashes differ in: the bytes of a word, the starting chain (5.3), the chain after one block of 16 words
+-- (6), and the bytes of the padding's length field (5.1). The digest is the whole chain.
 pub record Hash : Type 0 where
   pub word_bytes : ℕ
   pub start : List Word

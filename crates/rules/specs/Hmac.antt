@@ -95,7 +95,8 @@ text_step M n before text h = let W = ending M.standard before text in blocks M 
 abbrev pub digest_step : Masked → Count → Sharing → Sharing → Draw Sharing
 digest_step M n inner outer = M.compress n outer (inner ++ publics n (digest_padding M.standard))
 
--- HMAC compresses the inner key block, the message blocks, the outer key block, the digest block. The inner digest stays in shares.
+-- HMAC compresses the inner key block, the message blocks, the outer key block, the digest block. The inner digest
+-- stays in shares.
 unfoldable pub hmac_shares : Masked → Count → Sharing → Bytes → Draw Sharing
 hmac_shares M n key text ws at =
     let i = key_step M n 0x36 key ws at in

@@ -1,4 +1,5 @@
--- What is said of a call's outcome: the number, what there is afterwards, what it made. crates/claims says it of each call.
+-- What is said of a call's outcome: the number, what there is afterwards, what it made. crates/claims says it of each
+-- call.
 use Rattle.std.specs.Prelude.{ℕ, ◌≤◌, ◌≡◌, List, ◌⊎◌, length, take}
 use Rattle.rules.specs.declared.Answer.{Answer}
 use Rattle.rules.specs.declared.State.{State}

@@ -1,6 +1,7 @@
 -- Section 6: masked SHA-1, over words of k bits in n shares each. Several words stand one after the other: share i of
 -- word w at place w·n + i. The addition of shares is a parameter.
-use Rattle.std.specs.Prelude.{ℕ, zero, suc, ◌+◌, ◌-◌, ◌*◌, ◌/◌, ◌^◌, List, [], ◌∷◌, ◌++◌, map, length, replicate, take, drop}
+use Rattle.std.specs.Prelude.{ℕ, zero, suc, ◌+◌, ◌-◌, ◌*◌, ◌/◌, ◌^◌, List, [], ◌∷◌, ◌++◌, map, length, replicate, take}
+use Rattle.std.specs.Prelude.{drop}
 use Rattle.std.specs.Int.Bits.{bit_xor}
 use Rattle.words.specs.Word.{Width, Word, shift}
 use Rattle.rules.specs.Supply.{Draw, Count, Sharing, opened}
@@ -32,8 +33,8 @@ rotl k r x = bit_xor (shift k r x) (x / 2 ^ (k - r))
 abbrev pub rotated : Width → ℕ → Sharing → Sharing
 rotated k r x = map (rotl k r) x
 
--- Ch = d ⊕ (b ∧ (c ⊕ d)), Parity, Maj = d ⊕ ((b ⊕ d) ∧ (c ⊕ d)), Parity: the function f of a quarter, one AND each; Parity
--- draws nothing. `blended` is d ⊕ (u ∧ v)
+-- Ch = d ⊕ (b ∧ (c ⊕ d)), Parity, Maj = d ⊕ ((b ⊕ d) ∧ (c ⊕ d)), Parity: the function f of a quarter, one AND each;
+-- Parity draws nothing. `blended` is d ⊕ (u ∧ v)
 unfoldable pub blended : Sharing → Sharing → Sharing → Draw Sharing
 blended u v d ws at =
     let t = and u v ws at in
@@ -81,7 +82,8 @@ ago n j W = take n (drop (length W - j * n) W)
 
 -- The schedule is worked out as 80 words: the next, and m more after those of W
 unfoldable pub following : Width → Count → Sharing → Sharing
-following k n W = rotated k 1 (each bit_xor (each bit_xor (each bit_xor (ago n 3 W) (ago n 8 W)) (ago n 14 W)) (ago n 16 W))
+following k n W = rotated k 1 (each bit_xor (each bit_xor (each bit_xor (ago n 3 W) (ago n 8 W)) (ago n 14 W))
+    (ago n 16 W))
 
 unfoldable pub schedule : Width → Count → ℕ → Sharing → Sharing
 schedule k n zero W = W

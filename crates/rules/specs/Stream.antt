@@ -1,6 +1,7 @@
 -- Section 10, streaming: a tag while the message comes in pieces, over any hash in shares. Start, feed a piece of any
 -- length, and finish, each with words of its own; the state is handed in and out.
-use Rattle.std.specs.Prelude.{ℕ, zero, suc, ◌+◌, ◌*◌, ◌/◌, ◌%◌, ◌≡◌, Bool, List, [], ◌∷◌, ◌++◌, eqb, leb, length, take, drop}
+use Rattle.std.specs.Prelude.{ℕ, zero, suc, ◌+◌, ◌*◌, ◌/◌, ◌%◌, ◌≡◌, Bool, List, [], ◌∷◌, ◌++◌, eqb, leb, length, take}
+use Rattle.std.specs.Prelude.{drop}
 use Rattle.rules.specs.declared.Answer.{Answer}
 use Rattle.rules.specs.declared.Sha256Chain.{Sha256Chain}
 use Rattle.rules.specs.declared.State.{State}
@@ -189,8 +190,8 @@ unfoldable pub Accepted : Masked → State → Feeds → Type 0
 Accepted M s [] = Unit {0}
 Accepted M s (f ∷ fs) = let o = feed_call M s f.0 f.1 in (o.number ≡ 0) × Accepted M o.state fs
 
--- any run of calls from an accepted start, accepted or refused, each on a state that one before it handed back: how many
--- bytes were taken until then, how many words start and feeds drew, and the state
+-- any run of calls from an accepted start, accepted or refused, each on a state that one before it handed back: how
+-- many bytes were taken until then, how many words start and feeds drew, and the state
 pub data Reached (M : Masked) (n : Count) : ℕ → ℕ → State → Type 0 where
   starts : (key : Sharing) (ws : Supply) {r : Streamed} → start_call M n key ws ≡ r → r.number ≡ 0
       → Reached M n 0 r.drawn r.state

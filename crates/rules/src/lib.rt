@@ -1,5 +1,5 @@
-// The rules of the library, as definitions over a width k and any number of shares. No code: only limits and sizes, and the
-// types that answers have.
+// The rules of the library, as definitions over a width k and any number of shares. No code: only limits and sizes,
+// and the types that answers have.
 #![tactic(auto)]
 
 // The largest share count: room for shares is made for so many.

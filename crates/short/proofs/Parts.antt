@@ -113,7 +113,8 @@ sum_made k first z s some size e =
       ← front,
       ← long,
     )
-    (set_two s (get_or z (length s) 0) (get_or z (suc (length s)) 0) (get_or first (length s) 0) (get_or z (length s) 0))
+    (set_two s (get_or z (length s) 0) (get_or z (suc (length s)) 0) (get_or first (length s) 0)
+    (get_or z (length s) 0))
 
 -- ---- both lists of the shares x
 module _ (at p q l : ℕ) (place : p ≡ at + l) where

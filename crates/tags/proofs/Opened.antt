@@ -17,7 +17,8 @@ use Rattle.hash.proofs.Chains.{lent, lent_size, array_end}
 
 -- a word as bytes
 pub bytes_put : (tag : List ℕ) (v i : ℕ) → i + 4 ≤ length tag
-    → take (i + 4) (set (set (set (set tag i (v / 16777216 % 256)) (i + 1) (v / 65536 % 256)) (i + 2) (v / 256 % 256)) (i + 3) (v % 256))
+    → take (i + 4) (set (set (set (set tag i (v / 16777216 % 256)) (i + 1) (v / 65536 % 256)) (i + 2) (v / 256 % 256))
+    (i + 3) (v % 256))
     ≡ take i tag ++ bytes_of 4 v
 unfolding bytes_of
 bytes_put tag v i h =
@@ -57,7 +58,7 @@ module _ (n m : ℕ) (s : List ℕ) where
 
 -- the used words of a chain, lent and opened
 module _ (code n m end : ℕ) (words : m ≡ chain_words (standard code)) where
-  pub lent_words : (chain : List ℕ) → length (map (λ (v : ℕ). v) chain) ≡ 128 → end ≡ chain_words (standard code) * n
+  pub lent_words : (chain : List ℕ) → length chain ≡ 128 → end ≡ chain_words (standard code) * n
       → end ≤ 8 * n → n ≤ largest → length (take (end - 0) chain) ≡ m * n
   lent_words chain whole is most low = rw words (lent_size code n end is chain (array_end n end chain whole most low))
 

@@ -7,7 +7,8 @@ use Rattle.hash.proofs.mark.Given as goal
 
 abbrev pub invariant-loop-w : goal.invariant-loop-w
 invariant-loop-w l =
-    (l.w ≤ length l.values) × (length l.z ≡ length l.values * l.n) × (marking l.n (drop l.w l.values) l.w l.z ≡ marking l.n l.values 0 l.initial.z)
+    (l.w ≤ length l.values) × (length l.z ≡ length l.values * l.n)
+    × (marking l.n (drop l.w l.values) l.w l.z ≡ marking l.n l.values 0 l.initial.z)
 
 abbrev pub decreases-loop-w : goal.decreases-loop-w
 decreases-loop-w l = length l.values - l.w

@@ -8,7 +8,8 @@ use Rattle.padding.proofs.block_words.Given as goal
 
 abbrev pub invariant-loop-w : goal.invariant-loop-w
 invariant-loop-w l =
-    (l.w ≤ 16) × (length l.z ≡ 16) × (take l.w l.z ≡ take l.w (take 16 (drop (16 * l.j) (ending (SHA1 32) l.before l.text))))
+    (l.w ≤ 16) × (length l.z ≡ 16) × (take l.w l.z ≡ take l.w
+    (take 16 (drop (16 * l.j) (ending (SHA1 32) l.before l.text))))
 
 abbrev pub decreases-loop-w : goal.decreases-loop-w
 decreases-loop-w l = 16 - l.w

@@ -14,7 +14,8 @@ invariant-loop-t l =
     (l.t ≤ 80) × (length l.u ≡ 16 * l.n) × (length l.s ≡ 5 * l.n)
     × (l.p + rounds_ands 32 (80 - l.t) l.t * and_draws l.n ≡ l.at + rounds_ands 32 80 0 * and_draws l.n)
     × Window l.n (schedule 32 l.n 64 l.initial.u) l.t (turned l.n (l.t % 16) l.u)
-    × (rounds (λ t. round 32 (add 32) l.n (t / 20)) l.n (schedule 32 l.n 64 l.initial.u) (80 - l.t) l.t (turned l.n ((80 - l.t) % 5) l.s) l.words l.p
+    × (rounds (λ t. round 32 (add 32) l.n (t / 20)) l.n (schedule 32 l.n 64 l.initial.u) (80 - l.t) l.t
+    (turned l.n ((80 - l.t) % 5) l.s) l.words l.p
     ≡ rounds (λ t. round 32 (add 32) l.n (t / 20)) l.n (schedule 32 l.n 64 l.initial.u) 80 0 l.initial.s l.words l.at)
 
 abbrev pub decreases-loop-t : goal.decreases-loop-t

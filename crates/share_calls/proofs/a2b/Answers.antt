@@ -11,7 +11,8 @@ returns-then-number-ne-DONE c = search (refused, to_bool_needs)
 pub to_bool-requires : goal.to_bool-requires
 to_bool-requires c =
     let told = c.a2b_words-need.ensures in
-    let p = one_ready (to_bool_draws (add_draws 32)) (λ n. n) told c.one_input-number.ensures c.if-number-ne-DONE.false in
+    let p = one_ready (to_bool_draws (add_draws 32)) (λ n. n) told c.one_input-number.ensures c.if-number-ne-DONE.false
+    in
     search rules
 
 pub returns : goal.returns

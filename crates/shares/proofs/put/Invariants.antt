@@ -7,7 +7,8 @@ use Rattle.shares.proofs.put.Given as goal
 
 abbrev pub invariant-loop-i : goal.invariant-loop-i
 invariant-loop-i l =
-    (l.i ≤ length l.x) × (length l.z ≡ length l.initial.z) × (sets l.z (l.at + l.i) (drop l.i l.x) ≡ sets l.initial.z l.at l.x)
+    (l.i ≤ length l.x) × (length l.z ≡ length l.initial.z)
+    × (sets l.z (l.at + l.i) (drop l.i l.x) ≡ sets l.initial.z l.at l.x)
 
 abbrev pub decreases-loop-i : goal.decreases-loop-i
 decreases-loop-i l = length l.x - l.i

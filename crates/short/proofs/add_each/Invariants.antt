@@ -10,7 +10,8 @@ use Rattle.short.proofs.add_each.Given as goal
 
 abbrev pub invariant-loop-i : goal.invariant-loop-i
 invariant-loop-i l =
-    (l.i ≤ length l.x) × (length l.y ≡ length l.x) × (l.y ≡ take l.i (each (plus bits) l.x l.initial.y) ++ drop l.i l.initial.y)
+    (l.i ≤ length l.x) × (length l.y ≡ length l.x) × (l.y
+    ≡ take l.i (each (plus bits) l.x l.initial.y) ++ drop l.i l.initial.y)
 
 abbrev pub decreases-loop-i : goal.decreases-loop-i
 decreases-loop-i l = length l.x - l.i

@@ -11,9 +11,11 @@ use Rattle.sums.proofs.sums_at.Given as goal
 
 abbrev pub invariant-loop-i : goal.invariant-loop-i
 invariant-loop-i l =
-    (l.i ≤ l.count) × (length l.z ≡ l.count * l.n) × (l.p + (l.count - l.i) * (32 * and_draws l.n) ≡ l.at + l.count * (32 * and_draws l.n))
+    (l.i ≤ l.count) × (length l.z ≡ l.count * l.n) × (l.p + (l.count - l.i) * (32 * and_draws l.n)
+    ≡ l.at + l.count * (32 * and_draws l.n))
     × (drop (l.i * l.n) l.z ≡ drop (l.i * l.n) l.initial.z)
-    × (sums (add 32) l.n l.initial.z l.s (l.count - l.i) l.i (firsts l.n l.i l.z) l.words l.p ≡ sums (add 32) l.n l.initial.z l.s l.count 0 [] l.words l.at)
+    × (sums (add 32) l.n l.initial.z l.s (l.count - l.i) l.i (firsts l.n l.i l.z) l.words l.p
+    ≡ sums (add 32) l.n l.initial.z l.s l.count 0 [] l.words l.at)
 
 abbrev pub decreases-loop-i : goal.decreases-loop-i
 decreases-loop-i l = l.count - l.i
