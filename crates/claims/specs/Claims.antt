@@ -119,8 +119,8 @@ V-closed = short_closed
 
 -- The calls on n shares, each with what it asks of its input, how long its output is, what it asks of its text, how
 -- many words it draws and its rule. Refused, it reports 0 words drawn and the output stays as it came
--- (`refused-leaves`). Accepted, output and count are the rule's, from place 0 (`accepted-is`), the count in closed
--- form (`count`), and words after those drawn have no influence (`past-draws`).
+-- (`refused_leaves`). Accepted, output and count are the rule's, from place 0 (`accepted_is`), the count in closed
+-- form (`count`), and words after those drawn have no influence (`past_draws`).
 pub record CallsFollow (n : ℕ) : Type 0 where
   pub split_follows : (value : ℕ) → Follows (Allowed n) None n None (n - 1) (split n value) (split_call n value)
   pub refresh_follows : (x : List ℕ)
@@ -370,7 +370,7 @@ a2b_record_ends A r G came a b h = rw h (a2b_ends 32 A r G (lit< tt) a b)
 
 -- ==== Demand 3: one probe on one step says nothing
 -- Each entry that a recording call leaves, at every width k, shows each value equally often for any two secrets, over
--- all r and G. (That this can fail, as of two steps together, is `two-steps-show` of crates/rules/proofs/Demand3.antt.)
+-- all r and G. (That this can fail, as of two steps together, is `two_steps_show` of crates/rules/proofs/Demand3.antt.)
 pub b2a_step_says_nothing : (k i : ℕ) (came : List ℕ)
     → Independent k (λ x r G. get_or (b2a_record_call k (bit_xor x r) r G came).1 i 0)
 b2a_step_says_nothing k i came =
