@@ -1,7 +1,7 @@
 -- What the hashes differ in, by their codes; and chain records, of which the words in use are compressed.
 use Prim.Native.Nat.{ℕ, zero, suc, ◌+◌, ◌-◌, ◌*◌, ◌≤◌, ◌<◌}
 use mathlib.Core.Path.{◌≡◌, refl, sym, ap, ◌∙◌}
-use mathlib.Core.List.{List, [], ◌++◌, map, append-nil}
+use mathlib.Core.List.{List, [], ◌++◌, append-nil}
 use native.Mathlib.Nat.{sub-zero, mul-le-mul_left, mul-le-mul_right}
 use native.Mathlib.Omega.{arith}
 use mir.Syntax.{w64}

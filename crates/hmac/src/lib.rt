@@ -8,7 +8,7 @@ ghost use Rattle.rules.specs.Hash.{chain_words, digest_bytes, ending};
 ghost use Rattle.rules.specs.Sha1.{publics};
 ghost use Rattle.rules.specs.Hmac.{used, marked, blocks, digest_padding, hmac_shares, hmac_tag};
 ghost use Rattle.rules.specs.Counts.{hmac_draws};
-ghost use Rattle.rules.specs.Standard.{SHA1};
+ghost use Rattle.rules.specs.Standard.{SHA1 as sha1_standard};
 ghost use Rattle.hash.specs.Hash.{hash, standard};
 ghost use Rattle.padding.specs.Whole.{Hashable, blocks_in};
 ghost use Rattle.hmac.specs.Halves.{inner_hash, outer_hash};
@@ -58,7 +58,7 @@ pub fn public_block(n: usize, before: usize, text: &[u8], j: usize, z: &mut [u32
     requires { (0 < n) × (before % 64 ≡ 0) × Hashable (before + length text.now)
         × (j < blocks_in (length text.now)) × (length z.old ≡ 16 * n) }
     ensures { z.new ≡ publics n
-        (take 16 (drop (16 * j) (ending (SHA1 32) before text.now))) }
+        (take 16 (drop (16 * j) (ending (sha1_standard 32) before text.now))) }
 {
     let mut values = [0u32; BLOCK_WORDS];
     block_words(before, text, j, &mut values);

@@ -1,7 +1,7 @@
 -- A key of one block, and a longer one: its blocks with their padding, its digest, and how many words it draws.
 use Prim.Native.Nat.{ℕ, ◌+◌, ◌-◌, ◌*◌, ◌/◌, ◌≤◌, ◌<◌}
 use mathlib.Core.Path.{◌≡◌, refl, sym, ap, ◌∙◌}
-use mathlib.Core.List.{List, ◌++◌, map}
+use mathlib.Core.List.{List, ◌++◌}
 use native.Mathlib.Omega.{arith}
 use native.Mathlib.Nat.{zero-add, add-mul, zero-mul, mul_comm, mul_assoc, mul-le-mul_right}
 use lib.Bits.{bit_xor}

@@ -1,5 +1,4 @@
 -- the words in use, in front of zeros
-use borrow.Author.Rules.{rules}
 use Rattle.hash.proofs.Chains.{array_end, cleared_made}
 use Rattle.hash.proofs.cleared.Goals as goal
 

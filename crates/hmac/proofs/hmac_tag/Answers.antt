@@ -1,0 +1,6 @@
+-- the shares of the tag, then their opening
+use Rattle.hmac.proofs.Steps.{tag_made}
+use Rattle.hmac.proofs.hmac_tag.Goals as goal
+
+pub returns : goal.returns
+returns c = search tag_made
