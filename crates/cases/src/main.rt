@@ -197,7 +197,7 @@ fn run_file(rt: &(impl Files + Alloc), name: &str) -> io::Result<()> {
 // Runs the file that an argument names, or says on standard error why it cannot be read.
 fn run_named(rt: &(impl Files + AllocGlobal + Eprint), argument: Option<String>) -> io::Result<()> {
     let Some(name) = argument else {
-        return eprintln!(rt; "two arguments, files of cases");
+        return eprintln!(rt; "two arguments, files of cases: Invalid argument");
     };
     match run_file(rt, name.as_str()) {
         Ok(()) => Ok(()),
@@ -208,6 +208,7 @@ fn run_named(rt: &(impl Files + AllocGlobal + Eprint), argument: Option<String>)
 fn main(rt: HostRuntime) -> io::Result<()> {
     let mut arguments = env::args(&rt)?;
     let _program = arguments.next();
-    run_named(&rt, arguments.next())?;
-    run_named(&rt, arguments.next())
+    let first = run_named(&rt, arguments.next());
+    let second = run_named(&rt, arguments.next());
+    first.and(second)
 }

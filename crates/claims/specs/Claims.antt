@@ -307,7 +307,7 @@ module _ (k : ℕ) (wide : 0 < k) (x : List ℕ) (some : 0 < length x) (words : 
       (opened_lt k x words)).place ws at
 
 -- The short conversion at every width and of any number of shares: it keeps the secret, and draws V(n) words. So it
--- opens to what the other does; of calls, b2a-keeps and b2a-short-keeps say so.
+-- opens to what the other does; of calls, b2a_keeps and b2a_short_keeps say so.
 module _ (k : ℕ) (x ws : List ℕ) (at : ℕ) where
   pub short_keeps : Words k ws → Words k x → total (to_arith_short k x ws at).0 % 2 ^ k ≡ opened x
   short_keeps = to_arith_short_opens k x ws at

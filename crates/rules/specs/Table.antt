@@ -45,7 +45,7 @@ table =
     -- P10, amended by (v): Boolean to arithmetic at 1, 2, 4 and 8 shares, as the conversion itself draws
     row (map (λ n. (to_arith 32 (add 32) refresh (replicate n 0) [] 0).1) (1 ∷ 2 ∷ 4 ∷ 8 ∷ []))
     (0 ∷ 68 ∷ 465 ∷ 2363 ∷ []) ∷
-    -- P11: HMAC at 2 shares, of 55 and of 56 bytes; that HMAC draws so is hmacShares-sized of proofs/Sizes.antt
+    -- P11: HMAC at 2 shares, of 55 and of 56 bytes; that HMAC draws so is hmac_shares_sized of proofs/Sizes.antt
     row (map (hmac_draws (sha1 32) 2) (55 ∷ 56 ∷ [])) (41760 ∷ 52200 ∷ []) ∷
     -- request (iv): V(1), V(2), V(3), V(4) and V(8), as the short conversion itself draws
     row (map (λ n. (to_arith_short 32 (replicate n 0) [] 0).1) (1 ∷ 2 ∷ 3 ∷ 4 ∷ 8 ∷ [])) (0 ∷ 4 ∷ 15 ∷ 40 ∷ 868 ∷ []) ∷
@@ -54,7 +54,7 @@ table =
     row (refresh (1 ∷ 2 ∷ 4 ∷ []) (0x10 ∷ 0x20 ∷ 0x40 ∷ []) 0).0 (0x31 ∷ 0x52 ∷ 0x64 ∷ []) ∷
     row (refresh (1 ∷ 2 ∷ 4 ∷ 8 ∷ []) (0x10 ∷ 0x20 ∷ 0x40 ∷ 0x80 ∷ 0x100 ∷ 0x200 ∷ []) 0).0
     (0x71 ∷ 0x192 ∷ 0x2A4 ∷ 0x348 ∷ []) ∷
-    -- request (vi): W(1) to W(16); that the conversion draws so is toBool-rule of proofs/Conversion.antt
+    -- request (vi): W(1) to W(16); that the conversion draws so is to_bool_rule of proofs/Conversion.antt
     row (map (to_bool_draws (add_draws 32))
     (1 ∷ 2 ∷ 3 ∷ 4 ∷ 5 ∷ 6 ∷ 7 ∷ 8 ∷ 9 ∷ 10 ∷ 11 ∷ 12 ∷ 13 ∷ 14 ∷ 15 ∷ 16 ∷ []))
     (0 ∷ 34 ∷ 134 ∷ 264 ∷ 496 ∷ 758 ∷ 1082 ∷ 1432 ∷ 1928 ∷ 2450 ∷ 3034 ∷ 3650 ∷ 4360 ∷ 5102 ∷ 5902 ∷ 6720 ∷ []) ∷
