@@ -83,7 +83,7 @@ $(proved): crates.txt $(shell find $(wildcard crates/*/src crates/*/specs crates
 	    "Rattle's rt is missing, and proves and builds the library. With FLAMIVORSE_LIB_DIR an archive is taken" \
 	    'from a folder, for example of a release.'; exit 2; }
 	cd crates/flamivorse && rt all check    # side by side; the next line would go one by one
-	cd crates/flamivorse_c && rt lib
+	cd crates/flamivorse_c && rt lib --cpu=x86-64    # for every such processor
 
 $(program): $(library) rust/Cargo.toml $(shell find rust/cli rust/flamivorse)
 	bash -euo pipefail -c '. tests/setup; build_program'
