@@ -13,7 +13,6 @@ use Rattle.rules.specs.declared.Answer.{Answer}
 use Rattle.rules.specs.declared.Sha256Chain.{Sha256Chain}
 use Rattle.rules.specs.declared.State.{State}
 use Rattle.rules.specs.declared.Streamed.{Streamed}
-use Rattle.rules.specs.declared.Fed.TheVariants.{Taken, Refused}
 use Rattle.rules.specs.Supply.{Rule}
 use Rattle.rules.specs.Numbers.{largest, longest_message, allowed, Test, test, first, settled}
 use Rattle.rules.specs.Hash.{Hash, block_bytes, chain_words, digest_bytes}
@@ -23,7 +22,7 @@ use Rattle.rules.specs.Counts.{start_draws, feed_draws, finish_draws, standard_o
 use Rattle.rules.specs.Stream.{state_room, in_use, waiting, fit, is_fit, state_of_zeros, start, feed, finish}
 use Rattle.rules.specs.Stream.{start_words}
 use Rattle.rules.specs.Stream.{feed_words, finish_words}
-use Rattle.rules.specs.Stream.{streamed, start_call, feed_call, fed_answer, finish_call, closed}
+use Rattle.rules.specs.Stream.{streamed, start_call, feed_call, finish_call, closed}
 use Rattle.rules.specs.Calls.{query}
 use Rattle.rules.specs.Outcome.{Whole}
 use Rattle.rules.proofs.Rule.{said, alike}
@@ -200,7 +199,7 @@ module _ (code : ℕ) where
 
       pub feed_refused : length s.inner.shares ≡ state_room
           → length s.outer.shares ≡ state_room → length s.tail ≡ 64
-          → (number ≡ 0 → ⊥) → feed_call M s piece ws ≡ streamed (fed_answer (Refused number)) s
+          → (number ≡ 0 → ⊥) → feed_call M s piece ws ≡ streamed (record { number = number; drawn = 0 }) s
       unfolding feed_call
       feed_refused inner outer tail h =
           ap (λ (o : Answer × State). streamed o.0 o.1)
@@ -209,7 +208,7 @@ module _ (code : ℕ) where
 
       pub feed_done : number ≡ 0 → (next : State) (drawn : ℕ) → feed M s piece ws 0 ≡ (next, drawn)
           → drawn ≡ 0 + feed_draws M s.n s.bytes (length piece)
-          → feed_call M s piece ws ≡ streamed (fed_answer (Taken drawn)) next
+          → feed_call M s piece ws ≡ streamed (record { number = 0; drawn = drawn }) next
       unfolding feed_call
       feed_done h next drawn f place =
           ap (λ (o : Answer × State). streamed o.0 o.1)

@@ -1,5 +1,6 @@
 pub mod Supply
 pub mod Numbers
+pub mod Refusals
 pub mod Goubin
 pub mod Independent
 pub mod Shares

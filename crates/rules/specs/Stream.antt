@@ -6,8 +6,6 @@ use Rattle.rules.specs.declared.Answer.{Answer}
 use Rattle.rules.specs.declared.Sha256Chain.{Sha256Chain}
 use Rattle.rules.specs.declared.State.{State}
 use Rattle.rules.specs.declared.Streamed.{Streamed}
-use Rattle.rules.specs.declared.Fed.{Fed}
-use Rattle.rules.specs.declared.Fed.TheVariants.{Taken, Refused}
 use Rattle.rules.specs.Supply.{Draw, Count, Supply, Sharing}
 use Rattle.rules.specs.Numbers.{longest_message, both, allowed, test, settled}
 use Rattle.rules.specs.Hash.{Bytes, Hash, block_bytes, chain_words, digest_bytes, words_of, filled}
@@ -130,11 +128,6 @@ feed_call M s piece ws =
     let o = call (test 6 (is_fit M s) ∷ test 4 (leb (s.bytes + length piece) longest_message) ∷ [])
     (feed M s piece) s ws in
     streamed o.0 o.1
-
--- what is handed back inside, number and count for every case; the state stands beside it
-abbrev pub fed_answer : Fed → Answer
-fed_answer (Taken drawn) = record { number = 0; drawn = drawn }
-fed_answer (Refused number) = record { number = number; drawn = 0 }
 
 -- an accepted finish only sets the finished mark; a refused one hands back the state
 abbrev pub closed : State → State

@@ -1,6 +1,9 @@
 // The rules of the library, as definitions over a width k and any number of shares. No code: only limits and sizes,
-// and the types that answers have.
+// and the types that answers have, with what turns an outcome into one.
 #![tactic(auto)]
+
+ghost use Rattle.std.specs.Prelude.{◌≡◌};
+ghost use Rattle.rules.specs.Refusals.{answer_of, opened_of};
 
 // The largest share count: room for shares is made for so many.
 pub const LARGEST: usize = 16;
@@ -38,6 +41,24 @@ pub const CHAIN: usize = CHAIN_WORDS * LARGEST;
 
 pub const SHA256_CHAIN: usize = SHA256_CHAIN_WORDS * LARGEST;
 
+// Why a call is refused: the numbers of section 3. 0 says that it was not.
+#[derive(Clone, Copy, PartialEq, Eq, Debug)]
+pub enum Refusal {
+    WrongCount = 1,
+    WrongInput = 2,
+    WrongOutput = 3,
+    TooLong = 4,
+    TooFewWords = 5,
+    NotFit = 6,
+}
+
+// The hashes, by the codes that a state carries.
+#[derive(Clone, Copy, PartialEq, Eq, Debug)]
+pub enum Algorithm {
+    Sha1 = 0,
+    Sha256 = 1,
+}
+
 // What a call on shares hands back: the number of section 3, and how many words it drew.
 #[repr(C)]
 #[derive(Clone, Copy)]
@@ -46,12 +67,40 @@ pub struct Answer {
     pub drawn: usize,
 }
 
+impl From<Result<usize, Refusal>> for Answer {
+    ghost from_gives = { λ outcome answer. answer ≡ answer_of outcome };
+
+    fn from(outcome: Result<usize, Refusal>) -> Answer {
+        match outcome {
+            Ok(drawn) => Answer { number: 0, drawn },
+            Err(refusal) => Answer {
+                number: refusal as u32,
+                drawn: 0,
+            },
+        }
+    }
+}
+
 // What an opening hands back: the number, and the word.
 #[repr(C)]
 #[derive(Clone, Copy)]
 pub struct Opened {
     pub number: u32,
     pub word: u32,
+}
+
+impl From<Result<u32, Refusal>> for Opened {
+    ghost from_gives = { λ outcome opened. opened ≡ opened_of outcome };
+
+    fn from(outcome: Result<u32, Refusal>) -> Opened {
+        match outcome {
+            Ok(word) => Opened { number: 0, word },
+            Err(refusal) => Opened {
+                number: refusal as u32,
+                word: 0,
+            },
+        }
+    }
 }
 
 // The masked chain value of SHA-1: one record of 80 words, of which 5n are used.
@@ -86,11 +135,6 @@ pub struct Sha256Compressed {
     pub chain: Sha256Chain,
 }
 
-// The codes of the hashes, as a state carries them.
-pub const SHA1: u32 = 0;
-
-pub const SHA256: u32 = 1;
-
 // What is carried from piece to piece of a message: the share count, how many bytes were fed so far, how many words
 // start and feeds drew for them, a mark that is not 0 once the tag was handed out, the hash, the chains after the inner
 // and after the outer key block, and the bytes of the block that is not yet full, the first `bytes` mod 64 of `tail`.
@@ -114,11 +158,4 @@ pub struct Streamed {
     pub number: u32,
     pub drawn: usize,
     pub state: State,
-}
-
-// What became of a piece: taken, with how many words were drawn; or refused, with the number.
-#[derive(Clone, Copy)]
-pub enum Fed {
-    Taken(usize),
-    Refused(u32),
 }

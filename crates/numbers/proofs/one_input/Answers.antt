@@ -1,5 +1,0 @@
--- the tests of its share count, and the others
-use Rattle.numbers.proofs.one_input.Goals as goal
-
-pub returns : goal.returns
-returns c = cc

@@ -1,6 +1,0 @@
--- the tests, one after the other
-use Rattle.numbers.proofs.Tests.{first_from}
-use Rattle.numbers.proofs.splitting.Goals as goal
-
-pub returns : goal.returns
-returns c = rw first_from (cc)

@@ -1,0 +1,36 @@
+-- Section 3: what an outcome is told as, to C too: 0 and what was made, or the number of the refusal.
+use Rattle.std.specs.Prelude.{ℕ, Result, Ok, Err}
+use Rattle.rules.specs.declared.Refusal.{Refusal}
+use Rattle.rules.specs.declared.Refusal.TheVariants.{WrongCount, WrongInput, WrongOutput, TooLong, TooFewWords, NotFit}
+use Rattle.rules.specs.declared.Algorithm.{Algorithm}
+use Rattle.rules.specs.declared.Algorithm.TheVariants.{Sha1, Sha256}
+use Rattle.rules.specs.declared.Answer.{Answer}
+use Rattle.rules.specs.declared.Opened.{Opened}
+
+abbrev pub number_of : Refusal → ℕ
+number_of WrongCount = 1
+number_of WrongInput = 2
+number_of WrongOutput = 3
+number_of TooLong = 4
+number_of TooFewWords = 5
+number_of NotFit = 6
+
+-- the number of an outcome
+abbrev pub number : {A : Type 0} → Result A Refusal → ℕ
+number (Ok made) = 0
+number (Err refusal) = number_of refusal
+
+-- the count of words, or nothing drawn
+abbrev pub answer_of : Result ℕ Refusal → Answer
+answer_of (Ok drawn) = record { number = 0; drawn = drawn }
+answer_of (Err refusal) = record { number = number_of refusal; drawn = 0 }
+
+-- the word that was opened, or 0
+abbrev pub opened_of : Result ℕ Refusal → Opened
+opened_of (Ok word) = record { number = 0; word = word }
+opened_of (Err refusal) = record { number = number_of refusal; word = 0 }
+
+-- the code of a hash, as a state carries it
+abbrev pub code_of : Algorithm → ℕ
+code_of Sha1 = 0
+code_of Sha256 = 1
