@@ -1,13 +1,9 @@
 -- two compressions of start, and one for each full block
-use mathlib.Core.Path.{refl, sym, ◌∙◌}
-use native.Mathlib.Omega.{arith}
+use Rattle.std.proofs.Common.{refl, sym, ◌∙◌}
 use Rattle.rules.specs.Counts.{hash_of}
-use Rattle.rules.proofs.Allowed.{in_bounds}
+use Rattle.rules.specs.Refusals.{code_of}
 use Rattle.rules.proofs.Streaming.{state_count}
 use Rattle.counts.proofs.state_words.Goals as goal
 
-pub compressions_words-requires : goal.compressions_words-requires
-compressions_words-requires c = (omega arith, search in_bounds)
-
 pub returns : goal.returns
-returns c = c.compressions_words.ensures ∙ sym (state_count (hash_of 32 c.args.code) _ _ refl)
+returns c = c.compressions_words.ensures.0 ∙ sym (state_count (hash_of 32 (code_of c.args.algorithm)) _ _ refl)
