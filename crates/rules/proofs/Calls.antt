@@ -4,11 +4,16 @@ use Prim.Native.Nat.{ℕ, zero, suc}
 use mathlib.Core.Path.{◌≡◌, refl, sym, ap, ◌∙◌}
 use mathlib.Core.Bool.{Bool, true, false}
 use mathlib.Core.List.{List, [], ◌∷◌, ◌++◌}
+use Rattle.std.specs.Prelude.{Result, Ok, Err, IsErrAnd}
+use Rattle.std.specs.Result.{result_unwrap_or}
 use native.Mathlib.Omega.{arith}
 use lib.Dec.{leb}
 use lib.ListN.{length}
 use borrow.Author.Tests.{eq-eqb, ne_eqb}
 use Rattle.rules.specs.declared.Answer.{Answer}
+use Rattle.rules.specs.declared.Refusal.{Refusal}
+use Rattle.rules.specs.declared.Refusal.TheVariants.{WrongCount, WrongInput, WrongOutput, TooLong, TooFewWords, NotFit}
+use Rattle.rules.specs.Refusals.{number_of, number, answer_of}
 use Rattle.rules.specs.Supply.{Draw}
 use Rattle.rules.specs.Numbers.{Test, test, first, settled}
 use Rattle.rules.specs.Calls.{record_call, call, query}
@@ -67,24 +72,66 @@ settled_refused zero done came h = absurd (h refl)
 settled_refused (suc number) done came h = refl
 
 -- what a query tells that refuses nothing
-pub tells : (tests : List Test) (drawn : ℕ) (q : Answer) → query tests drawn ≡ q → first tests ≡ 0 → drawn ≡ q.drawn
-tells tests drawn q e h = rw h at (ap (λ (a : Answer). a.drawn) e)
+pub tells : (tests : List Test) (drawn asked need : ℕ) → query tests drawn ≡ record { number = asked; drawn = need }
+    → first tests ≡ 0 → drawn ≡ need
+tells tests drawn asked need e h = rw h at (ap (λ (a : Answer). a.drawn) e)
 
--- ---- a call's outcome, from its number, what its rule draws and what the rule made
-module _ {S : Type 0} (tests : List Test) (rule : Draw S) (came : S) (ws : List ℕ) (number need : ℕ) (answer : Answer)
+-- what a query answers, by its number and the words that it tells
+pub answered : (tests : List Test) (drawn need : ℕ) (r : Result ℕ Refusal) → query tests drawn ≡ answer_of r
+    → need ≡ result_unwrap_or r 0 → query tests drawn ≡ record { number = number r; drawn = need }
+answered tests drawn need (Ok n) e f = rw f e
+answered tests drawn need (Err refusal) e f = rw f e
+
+-- ---- a call's outcome
+pub not_done : (refusal : Refusal) → number_of refusal ≡ 0 → ⊥
+not_done WrongCount h = absurd (omega arith)
+not_done WrongInput h = absurd (omega arith)
+not_done WrongOutput h = absurd (omega arith)
+not_done TooLong h = absurd (omega arith)
+not_done TooFewWords h = absurd (omega arith)
+not_done NotFit h = absurd (omega arith)
+
+-- a refusal that is passed on
+passed_on : {A : Type 0} {refusal : Refusal} (made : Result A Refusal) → IsErrAnd made (λ r. r ≡ refusal)
+    → made ≡ Err refusal
+passed_on {A = A} {refusal = refusal} (Ok _) h = elim h [ ]
+passed_on (Err r) h = ap Err h
+
+-- refused by its query, which makes the first of its tests
+pub refused_asked : {S : Type 0} (ts us : List Test) (rule : Draw S) (came : S) (ws : List ℕ) (d : ℕ)
+    (refusal : Refusal) (made : Result ℕ Refusal)
+    → query ts d ≡ record { number = number_of refusal; drawn = 0 } → IsErrAnd made (λ r. r ≡ refusal)
+    → call (ts ++ us) rule came ws ≡ (answer_of made, came)
+unfolding call first
+refused_asked ts us rule came ws d refusal made e is =
+    let first_is : first ts ≡ number_of refusal = ap (λ (a : Answer). a.number) e in
+    let all = stays ts us (test 5 (leb (rule ws 0).1 (length ws)) ∷ []) refusal first_is in
+    let h = not_done refusal in
+    rw (all, settled_refused (number_of refusal) (rule ws 0).1 0 h,
+    settled_refused (number_of refusal) (rule ws 0).0 came h, passed_on made is)
+  where
+    stays : (ts us vs : List Test) (refusal : Refusal) → first ts ≡ number_of refusal
+        → first ((ts ++ us) ++ vs) ≡ number_of refusal
+    stays [] us vs refusal h = absurd (not_done refusal (sym h))
+    stays (zero ∷ ts) us vs refusal h = stays ts us vs refusal h
+    stays (suc t ∷ ts) us vs refusal h = h
+
+-- refused by its own tests, of which the last is by what the rule draws; or done
+module _ {S : Type 0} (tests : List Test) (rule : Draw S) (came : S) (ws : List ℕ) (need number : ℕ)
     (is : first (tests ++ (test 5 (leb need (length ws)) ∷ [])) ≡ number)
     (draws : first tests ≡ 0 → (rule ws 0).1 ≡ need) where
-  -- the number by what the rule draws
   own : first (tests ++ (test 5 (leb (rule ws 0).1 (length ws)) ∷ [])) ≡ number
   own = sym (same_test tests [] 5 need (rule ws 0).1 (length ws) draws) ∙ is
 
-  pub refused : (number ≡ 0 → ⊥) → answer ≡ record { number = number; drawn = 0 }
-      → call tests rule came ws ≡ (answer, came)
+  pub refused : (refusal : Refusal) (made : Result ℕ Refusal) → number ≡ number_of refusal
+      → IsErrAnd made (λ r. r ≡ refusal) → call tests rule came ws ≡ (answer_of made, came)
   unfolding call
-  refused h e = rw (own, settled_refused number (rule ws 0).1 0 h, settled_refused number (rule ws 0).0 came h, e)
+  refused refusal made e passes =
+      let h = not_done refusal in
+      rw (own, e, settled_refused (number_of refusal) (rule ws 0).1 0 h,
+      settled_refused (number_of refusal) (rule ws 0).0 came h, passed_on made passes)
 
-  pub done : number ≡ 0 → (after : S) (drawn : ℕ) → rule ws 0 ≡ (after, drawn) → answer
-      ≡ record { number = 0; drawn = drawn }
-      → call tests rule came ws ≡ (answer, after)
+  pub done : (after : S) (drawn : ℕ) → number ≡ 0 → rule ws 0 ≡ (after, drawn)
+      → call tests rule came ws ≡ (record { number = 0; drawn = drawn }, after)
   unfolding call
-  done h after drawn e f = rw (own, h, e, f)
+  done after drawn h e = rw (own, h, e)

@@ -11,7 +11,6 @@ use lib.ListN.{length, get_or}
 use mir.Syntax.{w32}
 use mir.Val.{Fits}
 use borrow.Author.Tests.{eqb-true, leb-true}
-use Rattle.rules.specs.declared.Answer.{Answer}
 use Rattle.rules.specs.Supply.{Draw, Rule, split}
 use Rattle.rules.specs.Numbers.{largest, longest_key, longest_message, both, power, allowed, Test, test, first}
 use Rattle.rules.specs.Shares.{refresh, expand, and, add}
@@ -50,40 +49,40 @@ pub record Ready (most n drawn have : ℕ) : Type 0 where
   pub few : n ≤ most
   pub room : 0 + drawn ≤ have
 
-ready : {most n : ℕ} (drawn have : ℕ) (q : Answer) (tests : List Test) → query tests drawn ≡ q → first tests ≡ 0
-    → (0 < n) × (n ≤ most) → test 5 (leb q.drawn have) ≡ 0 → Ready most n drawn have
-ready drawn have q tests e h count enough =
+ready : {most n : ℕ} (drawn have asked need : ℕ) (tests : List Test) → query tests drawn ≡ record { number = asked; drawn = need } → first tests ≡ 0
+    → (0 < n) × (n ≤ most) → test 5 (leb need have) ≡ 0 → Ready most n drawn have
+ready drawn have asked need tests e h count enough =
     let enough' = leb-true _ _ (holds _ _ enough) in
-    record { some = count.0; few = count.1; room = rw (zero-add, tells tests drawn q e h) enough' }
+    record { some = count.0; few = count.1; room = rw (zero-add, tells tests drawn asked need e h) enough' }
 
-module _ {n have number : ℕ} {q : Answer} where
+module _ {n have number : ℕ} {asked need : ℕ} where
   -- by the length x of an input of n shares, where d n words are drawn; m n shares out
   module _ (d : ℕ → ℕ) {x y : ℕ} where
     counted_ready : {most : ℕ} (counted : ℕ → Bool) → ((n : ℕ) → counted n ≡ true → (0 < n) × (n ≤ most)) → (m : ℕ → ℕ)
-        → query (test 1 (counted n) ∷ []) (d n) ≡ q
-        → first (test 1 (counted n) ∷ test 2 (eqb x n) ∷ test 3 (eqb y (m n)) ∷ test 5 (leb q.drawn have) ∷ [])
+        → query (test 1 (counted n) ∷ []) (d n) ≡ record { number = asked; drawn = need }
+        → first (test 1 (counted n) ∷ test 2 (eqb x n) ∷ test 3 (eqb y (m n)) ∷ test 5 (leb need have) ∷ [])
         ≡ number
         → number ≡ 0 → (x ≡ n) × (y ≡ m n) × Ready most x (d x) have
     counted_ready counted bounds m e is z =
         let p = passed _ (is ∙ z) in
         let count = holds _ _ p.0 in
         let size = eqb-true x n (holds _ _ p.1.0) in
-        let room = ready (d n) have q _ e (taken count) (bounds n count) p.1.1.1.0 in
+        let room = ready (d n) have _ _ _ e (taken count) (bounds n count) p.1.1.1.0 in
         (size, eqb-true y (m n) (holds _ _ p.1.1.0), rw size room)
 
-    pub one_ready : (m : ℕ → ℕ) → query (test 1 (allowed n) ∷ []) (d n) ≡ q
-        → first (test 1 (allowed n) ∷ test 2 (eqb x n) ∷ test 3 (eqb y (m n)) ∷ test 5 (leb q.drawn have) ∷ [])
+    pub one_ready : (m : ℕ → ℕ) → query (test 1 (allowed n) ∷ []) (d n) ≡ record { number = asked; drawn = need }
+        → first (test 1 (allowed n) ∷ test 2 (eqb x n) ∷ test 3 (eqb y (m n)) ∷ test 5 (leb need have) ∷ [])
         ≡ number
         → number ≡ 0 → (x ≡ n) × (y ≡ m n) × Ready largest x (d x) have
     one_ready = counted_ready allowed within
 
-    pub short_ready : query (test 1 (power n) ∷ []) (d n) ≡ q
-        → first (test 1 (power n) ∷ test 2 (eqb x n) ∷ test 3 (eqb y n) ∷ test 5 (leb q.drawn have) ∷ []) ≡ number
+    pub short_ready : query (test 1 (power n) ∷ []) (d n) ≡ record { number = asked; drawn = need }
+        → first (test 1 (power n) ∷ test 2 (eqb x n) ∷ test 3 (eqb y n) ∷ test 5 (leb need have) ∷ []) ≡ number
         → number ≡ 0 → (x ≡ n) × (y ≡ n) × Ready 8 x (d x) have
     short_ready = counted_ready power power_within (λ n. n)
 
-    pub two_ready : {z : ℕ} → query (test 1 (allowed n) ∷ []) (d n) ≡ q
-        → first (test 1 (allowed n) ∷ test 2 (both (eqb x n) (eqb y n)) ∷ test 3 (eqb z n) ∷ test 5 (leb q.drawn have)
+    pub two_ready : {z : ℕ} → query (test 1 (allowed n) ∷ []) (d n) ≡ record { number = asked; drawn = need }
+        → first (test 1 (allowed n) ∷ test 2 (both (eqb x n) (eqb y n)) ∷ test 3 (eqb z n) ∷ test 5 (leb need have)
         ∷ []) ≡ number
         → number ≡ 0 → (x ≡ n) × (y ≡ n) × (z ≡ n) × Ready largest x (d x) have
     two_ready {z} e is h =
@@ -91,44 +90,44 @@ module _ {n have number : ℕ} {q : Answer} where
         let count = holds _ _ p.0 in
         let sizes = both_true _ _ (holds _ _ p.1.0) in
         let size = eqb-true x n sizes.0 in
-        let room = ready (d n) have q _ e (taken count) (within n count) p.1.1.1.0 in
+        let room = ready (d n) have _ _ _ e (taken count) (within n count) p.1.1.1.0 in
         (size, eqb-true y n sizes.1, eqb-true z n (holds _ _ p.1.1.0), rw size room)
 
-  module _ {drawn : ℕ} (e : query (test 1 (allowed n) ∷ []) drawn ≡ q) {x : ℕ} where
-    pub split_ready : first (test 1 (allowed n) ∷ test 3 (eqb x n) ∷ test 5 (leb q.drawn have) ∷ []) ≡ number
+  module _ {drawn : ℕ} (e : query (test 1 (allowed n) ∷ []) drawn ≡ record { number = asked; drawn = need }) {x : ℕ} where
+    pub split_ready : first (test 1 (allowed n) ∷ test 3 (eqb x n) ∷ test 5 (leb need have) ∷ []) ≡ number
         → number ≡ 0 → (x ≡ n) × Ready largest n drawn have
     split_ready is z =
         let p = passed _ (is ∙ z) in
         let count = holds _ _ p.0 in
-        (eqb-true x n (holds _ _ p.1.0), ready drawn have q _ e (taken count) (within n count) p.1.1.0)
+        (eqb-true x n (holds _ _ p.1.0), ready drawn have _ _ _ e (taken count) (within n count) p.1.1.0)
 
-    pub block_ready : first (test 1 (allowed n) ∷ test 2 (eqb x (16 * n)) ∷ test 5 (leb q.drawn have) ∷ []) ≡ number
+    pub block_ready : first (test 1 (allowed n) ∷ test 2 (eqb x (16 * n)) ∷ test 5 (leb need have) ∷ []) ≡ number
         → number ≡ 0 → (x ≡ 16 * n) × Ready largest n drawn have
     block_ready is z =
         let p = passed _ (is ∙ z) in
         let count = holds _ _ p.0 in
-        (eqb-true x (16 * n) (holds _ _ p.1.0), ready drawn have q _ e (taken count) (within n count) p.1.1.0)
+        (eqb-true x (16 * n) (holds _ _ p.1.0), ready drawn have _ _ _ e (taken count) (within n count) p.1.1.0)
 
-  module _ {drawn : ℕ} {fits : Bool} (e : query (test 1 (allowed n) ∷ test 4 fits ∷ []) drawn ≡ q) {x : ℕ} where
-    pub key_ready : first (test 1 (allowed n) ∷ test 3 (eqb x (16 * n)) ∷ test 4 fits ∷ test 5 (leb q.drawn have) ∷ [])
+  module _ {drawn : ℕ} {fits : Bool} (e : query (test 1 (allowed n) ∷ test 4 fits ∷ []) drawn ≡ record { number = asked; drawn = need }) {x : ℕ} where
+    pub key_ready : first (test 1 (allowed n) ∷ test 3 (eqb x (16 * n)) ∷ test 4 fits ∷ test 5 (leb need have) ∷ [])
         ≡ number
         → number ≡ 0 → (x ≡ 16 * n) × (fits ≡ true) × Ready largest n drawn have
     key_ready is z =
         let p = passed _ (is ∙ z) in
         let count = holds _ _ p.0 in
         let short = holds _ _ p.1.1.0 in
-        let room = ready drawn have q _ e (taken_text n _ count short) (within n count) p.1.1.1.0 in
+        let room = ready drawn have _ _ _ e (taken_text n _ count short) (within n count) p.1.1.1.0 in
         (eqb-true x (16 * n) (holds _ _ p.1.0), short, room)
 
     pub tag_ready : {sized : Bool}
-        → first (test 1 (allowed n) ∷ test 2 (eqb x (16 * n)) ∷ test 3 sized ∷ test 4 fits ∷ test 5 (leb q.drawn have)
+        → first (test 1 (allowed n) ∷ test 2 (eqb x (16 * n)) ∷ test 3 sized ∷ test 4 fits ∷ test 5 (leb need have)
         ∷ []) ≡ number
         → number ≡ 0 → (x ≡ 16 * n) × (sized ≡ true) × (fits ≡ true) × Ready largest n drawn have
     tag_ready is z =
         let p = passed _ (is ∙ z) in
         let count = holds _ _ p.0 in
         let short = holds _ _ p.1.1.1.0 in
-        let room = ready drawn have q _ e (taken_text n _ count short) (within n count) p.1.1.1.1.0 in
+        let room = ready drawn have _ _ _ e (taken_text n _ count short) (within n count) p.1.1.1.1.0 in
         (eqb-true x (16 * n) (holds _ _ p.1.0), holds _ _ p.1.1.0, short, room)
 
 -- ---- streaming: a state that is fit, and a piece that does not pass the limit
@@ -158,38 +157,38 @@ pub short_text : (l : ℕ) → leb l longest_message ≡ true → 64 + l < 2 ^ 6
 short_text l h = omega (arith, leb-true l longest_message h)
 
 -- ---- each rule draws what its query tells, where the tests before the supply were passed
-pub needs : {S : Type 0} {P : S → Type 0} {rule : Draw S} (d : ℕ) (q : Answer) (tests : List Test) (ws : List ℕ)
-    → query tests d ≡ q → first tests ≡ 0 → Rule d P rule → (rule ws 0).1 ≡ q.drawn
-needs d q tests ws e h r = r.place ws 0 ∙ zero-add d ∙ tells tests d q e h
+pub needs : {S : Type 0} {P : S → Type 0} {rule : Draw S} (d asked need : ℕ) (tests : List Test) (ws : List ℕ)
+    → query tests d ≡ record { number = asked; drawn = need } → first tests ≡ 0 → Rule d P rule → (rule ws 0).1 ≡ need
+needs d asked need tests ws e h r = r.place ws 0 ∙ zero-add d ∙ tells tests d asked need e h
 
-module _ (n : ℕ) (came ws : List ℕ) (q : Answer) where
+module _ (n : ℕ) (came ws : List ℕ) (asked need : ℕ) where
   pub split_needs : (value : ℕ) → first (test 1 (allowed n) ∷ test 3 (eqb (length came) n) ∷ []) ≡ 0
-      → query (test 1 (allowed n) ∷ []) (n - 1) ≡ q → (split n value ws 0).1 ≡ q.drawn
+      → query (test 1 (allowed n) ∷ []) (n - 1) ≡ record { number = asked; drawn = need } → (split n value ws 0).1 ≡ need
   split_needs value h e =
       let count = holds _ _ (passed _ h).0 in
-      needs (n - 1) q _ ws e (taken count) (split_rule n value (within n count).0)
+      needs (n - 1) asked need _ ws e (taken count) (split_rule n value (within n count).0)
 
   module _ (x : List ℕ) where
     module _ (h : first (one_tests (allowed n) n n x came) ≡ 0) where
-      pub refresh_needs : query (test 1 (allowed n) ∷ []) (refresh_draws n) ≡ q → (refresh x ws 0).1 ≡ q.drawn
+      pub refresh_needs : query (test 1 (allowed n) ∷ []) (refresh_draws n) ≡ record { number = asked; drawn = need } → (refresh x ws 0).1 ≡ need
       refresh_needs e =
           let p = passed _ h in
-          needs (refresh_draws n) q _ ws e (taken (holds _ _ p.0))
+          needs (refresh_draws n) asked need _ ws e (taken (holds _ _ p.0))
           (refresh_rule n x (eqb-true (length x) n (holds _ _ p.1.0)))
 
       module _ (w : (i : ℕ) → Fits w32 (get_or x i 0)) where
-        pub to_bool_needs : query (test 1 (allowed n) ∷ []) (to_bool_draws (add_draws 32) n) ≡ q
-            → (to_bool (add 32) x ws 0).1 ≡ q.drawn
+        pub to_bool_needs : query (test 1 (allowed n) ∷ []) (to_bool_draws (add_draws 32) n) ≡ record { number = asked; drawn = need }
+            → (to_bool (add 32) x ws 0).1 ≡ need
         to_bool_needs e =
             let p = passed _ h in
             let count = holds _ _ p.0 in
             let size = eqb-true (length x) n (holds _ _ p.1.0) in
             let some = (within n count).0 in
-            needs (to_bool_draws (add_draws 32) (length x)) q _ ws (rw size e) (taken count)
+            needs (to_bool_draws (add_draws 32) (length x)) asked need _ ws (rw size e) (taken count)
             (to_bool_rule 32 (add_draws 32) (add 32) (add_adds 32 (omega arith)) x (omega arith) (λ i. (w i).fits))
 
-        pub to_arith_needs : query (test 1 (allowed n) ∷ []) (to_arith_draws (add_draws 32) refresh_draws n) ≡ q
-            → (to_arith 32 (add 32) refresh x ws 0).1 ≡ q.drawn
+        pub to_arith_needs : query (test 1 (allowed n) ∷ []) (to_arith_draws (add_draws 32) refresh_draws n) ≡ record { number = asked; drawn = need }
+            → (to_arith 32 (add 32) refresh x ws 0).1 ≡ need
         to_arith_needs e =
             let p = passed _ h in
             let count = holds _ _ p.0 in
@@ -197,22 +196,22 @@ module _ (n : ℕ) (came ws : List ℕ) (q : Answer) where
             let some = (within n count).0 in
             let secret = opened_lt 32 x (λ i. (w i).fits) in
             let added = add_adds 32 (omega arith) in
-            needs (to_arith_draws (add_draws 32) refresh_draws (length x)) q _ ws (rw size e) (taken count)
+            needs (to_arith_draws (add_draws 32) refresh_draws (length x)) asked need _ ws (rw size e) (taken count)
             (to_arith_rule 32 (add_draws 32) (add 32) added refresh_draws refresh refresh_refreshes x (omega arith)
             secret)
 
     pub to_arith_short_needs : first (one_tests (power n) n n x came) ≡ 0
-        → query (test 1 (power n) ∷ []) (short_draws n) ≡ q → (to_arith_short 32 x ws 0).1 ≡ q.drawn
+        → query (test 1 (power n) ∷ []) (short_draws n) ≡ record { number = asked; drawn = need } → (to_arith_short 32 x ws 0).1 ≡ need
     to_arith_short_needs h e =
         let p = passed _ h in
         let size = eqb-true (length x) n (holds _ _ p.1.0) in
-        needs (short_draws (length x)) q _ ws (rw size e) (taken (holds _ _ p.0)) (to_arith_short_rule 32 x)
+        needs (short_draws (length x)) asked need _ ws (rw size e) (taken (holds _ _ p.0)) (to_arith_short_rule 32 x)
 
-    pub expand_needs : first (one_tests (allowed n) n (2 * n) x came) ≡ 0 → query (test 1 (allowed n) ∷ []) n ≡ q
-        → (expand x ws 0).1 ≡ q.drawn
+    pub expand_needs : first (one_tests (allowed n) n (2 * n) x came) ≡ 0 → query (test 1 (allowed n) ∷ []) n ≡ record { number = asked; drawn = need }
+        → (expand x ws 0).1 ≡ need
     expand_needs h e =
         let p = passed _ h in
-        needs n q _ ws e (taken (holds _ _ p.0)) (expand_rule n x (eqb-true (length x) n (holds _ _ p.1.0)))
+        needs n asked need _ ws e (taken (holds _ _ p.0)) (expand_rule n x (eqb-true (length x) n (holds _ _ p.1.0)))
 
     module _ (y : List ℕ) (h : first (two_tests n x y came) ≡ 0) where
       count_two : allowed n ≡ true
@@ -222,15 +221,15 @@ module _ (n : ℕ) (came ws : List ℕ) (q : Answer) where
       sizes_two = let s = both_true _ _ (holds _ _ (passed _ h).1.0) in
           (eqb-true (length x) n s.0, eqb-true (length y) n s.1)
 
-      pub and_needs : query (test 1 (allowed n) ∷ []) (and_draws n) ≡ q → (and x y ws 0).1 ≡ q.drawn
-      and_needs e = needs (and_draws n) q _ ws e (taken count_two) (and_rule n x y sizes_two.0 sizes_two.1)
+      pub and_needs : query (test 1 (allowed n) ∷ []) (and_draws n) ≡ record { number = asked; drawn = need } → (and x y ws 0).1 ≡ need
+      and_needs e = needs (and_draws n) asked need _ ws e (taken count_two) (and_rule n x y sizes_two.0 sizes_two.1)
 
-      pub add_needs : (k : ℕ) → 0 < k → query (test 1 (allowed n) ∷ []) (add_draws k n) ≡ q
-          → (add k x y ws 0).1 ≡ q.drawn
+      pub add_needs : (k : ℕ) → 0 < k → query (test 1 (allowed n) ∷ []) (add_draws k n) ≡ record { number = asked; drawn = need }
+          → (add k x y ws 0).1 ≡ need
       add_needs k wide e =
-          needs (add_draws k n) q _ ws e (taken count_two) (add_loop_rule k n x y wide sizes_two.0 sizes_two.1)
+          needs (add_draws k n) asked need _ ws e (taken count_two) (add_loop_rule k n x y wide sizes_two.0 sizes_two.1)
 
-module _ (code n : ℕ) (came ws : List ℕ) (q : Answer) where
+module _ (code n : ℕ) (came ws : List ℕ) (asked need : ℕ) where
   abbrev M : Masked
   M = hash_of 32 code
 
@@ -240,12 +239,12 @@ module _ (code n : ℕ) (came ws : List ℕ) (q : Answer) where
   pub split_key_needs : (key : List ℕ)
       → first (test 1 (allowed n) ∷ test 3 (eqb (length came) (16 * n)) ∷ test 4 (leb (length key) longest_key) ∷ [])
       ≡ 0
-      → query (test 1 (allowed n) ∷ test 4 (leb (length key) longest_key) ∷ []) (key_draws M n (length key)) ≡ q
-      → (split_key M n key ws 0).1 ≡ q.drawn
+      → query (test 1 (allowed n) ∷ test 4 (leb (length key) longest_key) ∷ []) (key_draws M n (length key)) ≡ record { number = asked; drawn = need }
+      → (split_key M n key ws 0).1 ≡ need
   split_key_needs key h e =
       let p = passed _ h in
       let count = holds _ _ p.0 in
-      needs (key_draws M n (length key)) q _ ws e (taken_text n _ count (holds _ _ p.1.1.0))
+      needs (key_draws M n (length key)) asked need _ ws e (taken_text n _ count (holds _ _ p.1.1.0))
       (split_key_sized M n (within n count).0 (keeps count) (hash_proper 32 code) key)
 
   pub hmac_tag_needs : (key text : List ℕ)
@@ -253,19 +252,19 @@ module _ (code n : ℕ) (came ws : List ℕ) (q : Answer) where
       (test 1 (allowed n) ∷ test 2 (eqb (length key) (16 * n))
       ∷ test 3 (eqb (length came) (digest_bytes (standard_of 32 code))) ∷ test 4 (leb (length text) longest_message)
       ∷ []) ≡ 0
-      → query (test 1 (allowed n) ∷ test 4 (leb (length text) longest_message) ∷ []) (hmac_draws M n (length text)) ≡ q
-      → (hmac_tag M n key text ws 0).1 ≡ q.drawn
+      → query (test 1 (allowed n) ∷ test 4 (leb (length text) longest_message) ∷ []) (hmac_draws M n (length text)) ≡ record { number = asked; drawn = need }
+      → (hmac_tag M n key text ws 0).1 ≡ need
   hmac_tag_needs key text h e =
       let p = passed _ h in
       let count = holds _ _ p.0 in
       let size = eqb-true (length key) (16 * n) (holds _ _ p.1.0) in
-      needs (hmac_draws M n (length text)) q _ ws e (taken_text n _ count (holds _ _ p.1.1.1.0))
+      needs (hmac_draws M n (length text)) asked need _ ws e (taken_text n _ count (holds _ _ p.1.1.1.0))
       (hmac_tag_sized M n (within n count).0 (keeps count) (hash_proper 32 code) key text size)
 
   -- a compression into a chain record that has room
   pub compress_needs : (chain block : List ℕ) → length chain ≡ chain_room (standard_of 32 code)
       → first (test 1 (allowed n) ∷ test 2 (eqb (length block) (16 * n)) ∷ []) ≡ 0
-      → query (test 1 (allowed n) ∷ []) (M.draws n) ≡ q → (compressed M n chain block ws 0).1 ≡ q.drawn
+      → query (test 1 (allowed n) ∷ []) (M.draws n) ≡ record { number = asked; drawn = need } → (compressed M n chain block ws 0).1 ≡ need
   compress_needs chain block whole h e =
       let p = passed _ h in
       let count = holds _ _ p.0 in
@@ -273,7 +272,7 @@ module _ (code n : ℕ) (came ws : List ℕ) (q : Answer) where
       let room = length_used H n chain (rw whole (mul-le-mul_left (chain_words H) (within n count).1)) in
       let rule = compress_sized M n (within n count).0 (keeps count) (used H n chain) block room
       (eqb-true (length block) (16 * n) (holds _ _ p.1.0)) in
-      rule.place ws 0 ∙ zero-add _ ∙ tells _ _ q e (taken count)
+      rule.place ws 0 ∙ zero-add _ ∙ tells _ _ asked need e (taken count)
 
 -- refresh works on a copy, and splitting by the length of its output
 pub refresh_copied : (x y ws : List ℕ) (r : List ℕ × ℕ) → y ≡ x → refresh y ws 0 ≡ r → refresh x ws 0 ≡ r
@@ -284,12 +283,3 @@ pub split_sized : (n value need have number : ℕ) (came ws : List ℕ) (r : Lis
     → split (length came) value ws 0 ≡ r → split n value ws 0 ≡ r
 split_sized n value need have number came ws r is z e = rw
     (eqb-true (length came) n (holds _ _ (passed _ (is ∙ z)).1.0)) at e
-
--- ---- an opening
-module _ (n number word : ℕ) (x : List ℕ) (is : first (test 1 (allowed n) ∷ test 2 (eqb (length x) n) ∷ []) ≡ number)
-  where
-    pub not_opened : (number ≡ 0 → ⊥) → open_call n x word ≡ record { number = number; word = 0 }
-    not_opened h = rw (is, settled_refused number word 0 h)
-
-    pub was_opened : (opened : ℕ) → number ≡ 0 → opened ≡ word → open_call n x word ≡ record { number = 0; word = opened }
-    was_opened opened h e = rw (is, h, e)
