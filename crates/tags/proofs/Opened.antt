@@ -3,7 +3,7 @@ use Prim.Native.Nat.{ℕ, suc, ◌+◌, ◌-◌, ◌*◌, ◌≤◌, ◌<◌}
 use mathlib.Core.Path.{◌≡◌, sym, ap, ◌∙◌}
 use mathlib.Core.List.{List, [], ◌++◌, append-nil, append_assoc}
 use native.Mathlib.Omega.{arith}
-use native.Mathlib.Nat.{add-mul, sub-zero, zero-mul}
+use native.Mathlib.Nat.{add-mul}
 use lib.ListN.{length, take, drop}
 use lib.Seq.{take_all, drop-drop}
 use Rattle.rules.specs.Numbers.{largest}
@@ -18,9 +18,6 @@ use Rattle.hash.proofs.Chains.{lent, lent_size, array_end}
 module _ (n m : ℕ) (s : List ℕ) where
   abbrev pub Opening : ℕ → List ℕ → List ℕ
   Opening w tag = take (4 * w) tag ++ all_bytes 4 (open_words n (m - w) (drop (w * n) s))
-
-  pub tag_begin : (tag : List ℕ) → Opening 0 tag ≡ all_bytes 4 (open_words n m s)
-  tag_begin tag = rw (sub-zero m, zero-mul n)
 
   pub tag_next : (tag tag1 x done : List ℕ) (w v : ℕ) → w < m → x ≡ word n w s → v ≡ opened x
       → take (4 * w + 4) tag1 ≡ take (4 * w) tag ++ bytes_of 4 v → Opening w tag ≡ done → Opening (w + 1) tag1 ≡ done
