@@ -7,7 +7,7 @@ use native.Mathlib.Nat.{sub-zero}
 use lib.ListN.{length, get_or, set, take, drop, replicate, length-append, length-drop, take-append-drop}
 use lib.ListN.{get_or-append}
 use lib.Seq.{take_at, take_all, drop-drop, get_or-append-add, get_or-take, get_or-drop, length-take-le}
-use Rattle.words.proofs.Stores.{filled_next, filled_end, zeros_after}
+use Rattle.words.proofs.Stores.{filled_next, zeros_after}
 use Rattle.rules.specs.declared.Sha256Chain.{Sha256Chain}
 use Rattle.rules.specs.declared.State.{State}
 use Rattle.rules.specs.Numbers.{longest_message}
@@ -43,14 +43,11 @@ module _ (tail piece : List ℕ) where
         length-take-le l (drop p (tail ++ piece))
         (rw (length-drop p (tail ++ piece), length-append tail piece) (omega arith))
 
-    pub part_next : (v : ℕ) → i < length z → v ≡ get_or (tail ++ piece) (p + i) 0 → take i z ≡ take i part
+    pub part_next : (v : ℕ) → i < l → v ≡ get_or (tail ++ piece) (p + i) 0 → take i z ≡ take i part
         → take (i + 1) (set z i v) ≡ take (i + 1) part
     part_next v h e f =
-        filled_next z part i v h (size ∙ sym length_part)
+        filled_next z part i v (rw size h) (size ∙ sym length_part)
         (e ∙ sym (get_or-take l (drop p (tail ++ piece)) i 0 (omega arith) ∙ get_or-drop p (tail ++ piece) i 0)) f
-
-    pub part_end : length z ≤ i → take i z ≡ take i part → z ≡ part
-    part_end h f = filled_end z part i (omega (arith, length_part)) (size ∙ sym length_part) f
 
 -- ---- a full block of a text: the words of its bytes
 full_words : (text : List ℕ) → 64 ≤ length text
@@ -78,10 +75,6 @@ full_made code n h tail piece bytes b ws j at room e f made =
 
 -- ---- the full blocks, one after the other: j of them done
 module _ (code n : ℕ) (ws text : List ℕ) (count : ℕ) (e : Run) where
-  pub full_begin : (m p : ℕ) (g : List ℕ) → count ≡ m → full_blocks (hash code) n (count - 0) text g ws p
-      ≡ full_blocks (hash code) n m text g ws p
-  full_begin m p g f = rw (f, sub-zero m)
-
   pub full_next : (j p q : ℕ) (g g1 : List ℕ) → j < count
       → (hash code).compress n g (publics n (words_of 4 16 (drop (64 * j) text))) ws p ≡ (g1, q)
       → full_blocks (hash code) n (count - j) (drop (64 * j) text) g ws p ≡ e

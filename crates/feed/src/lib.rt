@@ -35,10 +35,8 @@ fn gather(tail: &[u8], piece: &[u8], p: usize, z: &mut [u8])
     ensures { z.new
         ≡ take (length z.old) (drop p (tail.now ++ piece.now)) }
 {
-    let mut i = 0;
-    while i < z.len() {
+    for i in 0..z.len() {
         z[i] = byte_of(tail, piece, p + i);
-        i += 1;
     }
 }
 
@@ -90,12 +88,10 @@ fn full_blocks(
     let count = (tail.len() + piece.len()) / BLOCK_BYTES;
     let mut c = chain;
     let mut p = at;
-    let mut j = 0;
-    while j < count {
+    for j in 0..count {
         let next = full_block(code, n, c, tail, piece, j, block, words, p);
         c = next.chain;
         p = next.at;
-        j += 1;
     }
     Stepped { chain: c, at: p }
 }

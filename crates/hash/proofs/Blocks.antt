@@ -2,7 +2,7 @@
 use Prim.Native.Nat.{ℕ, suc, ◌+◌, ◌-◌, ◌*◌, ◌≤◌, ◌<◌}
 use mathlib.Core.Path.{◌≡◌, sym, ap, ◌∙◌}
 use mathlib.Core.List.{List}
-use native.Mathlib.Nat.{add-mul, sub-zero, zero-mul}
+use native.Mathlib.Nat.{add-mul}
 use native.Mathlib.Omega.{arith}
 use lib.ListN.{take, drop}
 use lib.Seq.{drop-drop}
@@ -27,9 +27,6 @@ module _ (code n : ℕ) (ws W : List ℕ) (count : ℕ) (e : Run) where
       rw (← rest)
       (sym (ap (λ (r : Run). blocks (hash code) n (count - (j + 1)) left r.0 ws r.1) (rw made at f))
       ∙ (rw m at inv))
-
-  pub blocks_begin : (m p : ℕ) (g : List ℕ) → count ≡ m → Left code n ws W count 0 g p ≡ blocks (hash code) n m W g ws p
-  blocks_begin m p g f = rw (f, sub-zero m, zero-mul (16 * n))
 
   pub blocks_end : (j p : ℕ) (g : List ℕ) → count ≤ j → Left code n ws W count j g p ≡ e → e ≡ (g, p)
   unfolding blocks

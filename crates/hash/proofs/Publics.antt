@@ -3,7 +3,7 @@ use Prim.Native.Nat.{ℕ, zero, suc, ◌+◌, ◌-◌, ◌*◌, ◌≤◌, ◌<�
 use mathlib.Core.Path.{◌≡◌, refl, sym, ap, ap₂, ◌∙◌}
 use mathlib.Core.List.{List, [], ◌∷◌, ◌++◌}
 use native.Mathlib.Omega.{arith}
-use native.Mathlib.Nat.{mul-le-mul_left, mul-le-mul_right, suc-add, suc-mul, zero-add, zero-mul}
+use native.Mathlib.Nat.{suc-add, suc-mul, zero-add, zero-mul}
 use native.Mathlib.Numerals.{add-one}
 use lib.Bits.{bit_xor}
 use lib.ListN.{length, get_or, set, take, drop, replicate, length-append, length-drop, length-set, length-replicate}
@@ -16,13 +16,6 @@ use Rattle.rules.specs.Sha1.{public, publics}
 use Rattle.rules.specs.Hmac.{marked}
 use Rattle.rules.proofs.Openings.{each_append}
 use Rattle.rules.proofs.Keys.{each_zeros}
-
--- word w of m has its place
-pub place_room : (m n w : ℕ) → w < m → w * n + n ≤ m * n
-place_room m n w h = omega (arith, mul-le-mul_right n h, suc-mul w n)
-
-pub place_in : (m n k w l : ℕ) → 0 < n → k ≤ n → w < m → l ≡ m * n → w * k < l
-place_in m n k w l some few h e = omega (arith, place_room m n w h, mul-le-mul_left w few)
 
 -- sixteen words have room in a block
 pub public_room : (n l m : ℕ) → l ≡ 16 → m ≡ 16 * n → m ≡ l * n

@@ -31,10 +31,8 @@ pub fn mark(n: usize, values: &[u32], z: &mut [u32])
     requires { (0 < n) × (length z.old ≡ length values.now * n) }
     ensures { z.new ≡ marked n values.now z.old }
 {
-    let mut w = 0;
-    while w < values.len() {
-        mark_at(n, w, values[w], z);
-        w += 1;
+    for (w, v) in values.iter().enumerate() {
+        mark_at(n, w, *v, z);
     }
 }
 

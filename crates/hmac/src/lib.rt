@@ -89,13 +89,11 @@ pub fn text_step(
     let count = blocks_in(text.len());
     let mut c = chain;
     let mut p = at;
-    let mut j = 0;
-    while j < count {
+    for j in 0..count {
         public_block(n, before, text, j, block);
         let next = hash::compress(code, n, c, block, words, p);
         c = next.chain;
         p = next.at;
-        j += 1;
     }
     Stepped { chain: c, at: p }
 }

@@ -24,7 +24,6 @@ use Rattle.rules.proofs.Keys.{pad_blocks, short_draws_lem, long_draws}
 use Rattle.hash.specs.Hash.{hash, standard}
 use Rattle.hash.proofs.Publics.{publics_part}
 use Rattle.hash.proofs.Chains.{lent, lent_size, array_end}
-use Rattle.hash.proofs.Blocks.{Left, blocks_begin}
 use Rattle.padding.proofs.Padded.{any_ending}
 use Rattle.padding.specs.Whole.{blocks_in}
 use Rattle.key_words.specs.Held.{last_shares, held}
@@ -76,15 +75,6 @@ digest_made code n m end chain zs d is whole most low size e f =
     ap length (sym (lent code n end is chain)) ∙ lent_size code n end is chain (array_end n end chain whole most low)
     ∙ sym is in
     rw (e, f, lent code n end is chain, size, zeros_after (16 * n) end (omega arith), long)
-
--- ---- hashed, from the chain that starts a hash
-pub hash_begins : (code n : ℕ) (ws W s : List ℕ) (count m p : ℕ)
-    → used (standard code) n s ≡ publics n (standard code).start → count ≡ m
-    → Left code n ws W count 0 (used (standard code) n s) p
-    ≡ blocks (hash code) n m W (publics n (standard code).start) ws p
-hash_begins code n ws W s count m p e f =
-    let first = publics n (standard code).start in
-    rw e (blocks_begin code n ws W count (blocks (hash code) n m W first ws p) m p first f)
 
 -- ---- the whole of it
 module _ (code n : ℕ) (key ws : List ℕ) (at : ℕ) where

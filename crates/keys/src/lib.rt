@@ -78,13 +78,11 @@ fn hash_key(
     let count = blocks_in(bytes);
     let mut c = hash::start(code, n);
     let mut q = p;
-    let mut j = 0;
-    while j < count {
+    for j in 0..count {
         padded_block(n, bytes, lasts, j, block, words, at);
         let next = hash::compress(code, n, c, block, words, q);
         c = next.chain;
         q = next.at;
-        j += 1;
     }
     Stepped { chain: c, at: q }
 }

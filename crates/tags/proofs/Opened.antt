@@ -1,12 +1,11 @@
 -- Tags opened word by word, as the code's loop walks them: the words done, and those left.
-use Prim.Native.Nat.{ℕ, suc, ◌+◌, ◌-◌, ◌*◌, ◌/◌, ◌%◌, ◌≤◌, ◌<◌}
+use Prim.Native.Nat.{ℕ, suc, ◌+◌, ◌-◌, ◌*◌, ◌≤◌, ◌<◌}
 use mathlib.Core.Path.{◌≡◌, sym, ap, ◌∙◌}
-use mathlib.Core.List.{List, [], ◌∷◌, ◌++◌, append-nil, append_assoc}
+use mathlib.Core.List.{List, [], ◌++◌, append-nil, append_assoc}
 use native.Mathlib.Omega.{arith}
-use native.Mathlib.Nat.{add-mul, sub-zero, zero-mul}
-use lib.ListN.{length, set, take, drop}
+use native.Mathlib.Nat.{add-mul}
+use lib.ListN.{length, take, drop}
 use lib.Seq.{take_all, drop-drop}
-use Rattle.words.proofs.Stores.{take_sets}
 use Rattle.rules.specs.Numbers.{largest}
 use Rattle.rules.specs.Supply.{opened}
 use Rattle.rules.specs.Hash.{chain_words, digest_bytes, bytes_of, all_bytes}
@@ -15,29 +14,10 @@ use Rattle.rules.specs.Hmac.{used, tag_of}
 use Rattle.hash.specs.Hash.{standard}
 use Rattle.hash.proofs.Chains.{lent, lent_size, array_end}
 
--- a word as bytes
-pub bytes_put : (tag : List ℕ) (v i : ℕ) → i + 4 ≤ length tag
-    → take (i + 4) (set (set (set (set tag i (v / 16777216 % 256)) (i + 1) (v / 65536 % 256)) (i + 2) (v / 256 % 256))
-    (i + 3) (v % 256))
-    ≡ take i tag ++ bytes_of 4 v
-unfolding bytes_of
-bytes_put tag v i h =
-    let one : v ≡ v / 1 = omega arith in
-    let e1 : i + 1 ≡ suc i = omega arith in
-    let e2 : i + 2 ≡ suc (suc i) = omega arith in
-    let e3 : i + 3 ≡ suc (suc (suc i)) = omega arith in
-    let three = set (set (set tag i (v / 16777216 % 256)) (suc i) (v / 65536 % 256)) (suc (suc i)) (v / 256 % 256) in
-    rw (e1, e2, e3)
-    (ap (λ t. take (i + 4) (set three (suc (suc (suc i))) (t % 256))) one
-    ∙ take_sets tag (v / 16777216 % 256 ∷ v / 65536 % 256 ∷ v / 256 % 256 ∷ v / 1 % 256 ∷ []) i h)
-
 -- of m words w done, the rest still in shares
 module _ (n m : ℕ) (s : List ℕ) where
   abbrev pub Opening : ℕ → List ℕ → List ℕ
   Opening w tag = take (4 * w) tag ++ all_bytes 4 (open_words n (m - w) (drop (w * n) s))
-
-  pub tag_begin : (tag : List ℕ) → Opening 0 tag ≡ all_bytes 4 (open_words n m s)
-  tag_begin tag = rw (sub-zero m, zero-mul n)
 
   pub tag_next : (tag tag1 x done : List ℕ) (w v : ℕ) → w < m → x ≡ word n w s → v ≡ opened x
       → take (4 * w + 4) tag1 ≡ take (4 * w) tag ++ bytes_of 4 v → Opening w tag ≡ done → Opening (w + 1) tag1 ≡ done

@@ -17,10 +17,7 @@ fn put_bytes(v: u32, w: usize, tag: &mut [u8])
     ensures { take (4 * w + 4) tag.new ≡ take (4 * w) tag.old ++ bytes_of 4 v }
 {
     let i = WORD_BYTES * w;
-    tag[i] = (v / 16777216 % 256) as u8;
-    tag[i + 1] = (v / 65536 % 256) as u8;
-    tag[i + 2] = (v / 256 % 256) as u8;
-    tag[i + 3] = (v % 256) as u8;
+    tag[i..i + WORD_BYTES].copy_from_slice(&v.to_be_bytes());
 }
 
 // So many words in shares, opened: their bytes.
@@ -28,11 +25,9 @@ fn open_bytes(n: usize, count: usize, digest: &[u32], tag: &mut [u8])
     requires { (length digest.now ≡ count * n) × (length tag.old ≡ count * 4) }
     ensures { tag.new ≡ all_bytes 4 (open_words n count digest.now) }
 {
-    let mut w = 0;
-    while w < count {
+    for w in 0..count {
         let v = shares::open_xor(masked_words::word(digest, n, w));
         put_bytes(v, w, tag);
-        w += 1;
     }
 }
 

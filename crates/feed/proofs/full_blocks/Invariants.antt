@@ -1,5 +1,5 @@
 -- the blocks that are left, from here on, give what all of them give from the start
-use Prim.Native.Nat.{◌+◌, ◌-◌, ◌*◌, ◌/◌, ◌≤◌}
+use Prim.Native.Nat.{◌+◌, ◌-◌, ◌*◌, ◌/◌}
 use mathlib.Core.Path.{◌≡◌}
 use mathlib.Core.List.{◌++◌}
 use lib.ListN.{length, drop}
@@ -10,11 +10,10 @@ use Rattle.feed.proofs.full_blocks.Given as goal
 
 abbrev pub invariant-loop-j : goal.invariant-loop-j
 invariant-loop-j l =
+    let M = hash l.code in
+    let H = standard l.code in
     let text = l.tail ++ l.piece in
-    (l.j ≤ l.count) × (length l.block ≡ 16 * l.n) × (l.count ≡ (length l.tail + length l.piece) / 64)
-    × (l.p ≡ l.at + l.j * (hash l.code).draws l.n)
-    × (full_blocks (hash l.code) l.n (l.count - l.j) (drop (64 * l.j) text) (used (standard l.code) l.n l.c.shares) l.words l.p
-    ≡ full_blocks (hash l.code) l.n ((length l.tail + length l.piece) / 64) text (used (standard l.code) l.n l.initial.c.shares) l.words l.at)
-
-abbrev pub decreases-loop-j : goal.decreases-loop-j
-decreases-loop-j l = l.count - l.j
+    let m = (length l.tail + length l.piece) / 64 in
+    (length l.block ≡ 16 * l.n) × (l.count ≡ m) × (l.p ≡ l.at + l.j * M.draws l.n)
+    × (full_blocks M l.n (l.count - l.j) (drop (64 * l.j) text) (used H l.n l.c.shares) l.words l.p
+    ≡ full_blocks M l.n m text (used H l.n l.initial.c.shares) l.words l.at)

@@ -1,5 +1,5 @@
 -- the constants that are left, from here on, give what all of them give from the start
-use Prim.Native.Nat.{◌-◌, ◌*◌, ◌≤◌}
+use Prim.Native.Nat.{◌*◌}
 use mathlib.Core.Path.{◌≡◌}
 use lib.ListN.{length, drop}
 use Rattle.hash.proofs.Publics.{marking}
@@ -7,8 +7,4 @@ use Rattle.hash.proofs.mark.Given as goal
 
 abbrev pub invariant-loop-w : goal.invariant-loop-w
 invariant-loop-w l =
-    (l.w ≤ length l.values) × (length l.z ≡ length l.values * l.n)
-    × (marking l.n (drop l.w l.values) l.w l.z ≡ marking l.n l.values 0 l.initial.z)
-
-abbrev pub decreases-loop-w : goal.decreases-loop-w
-decreases-loop-w l = length l.values - l.w
+    (length l.z ≡ length l.values * l.n) × (marking l.n (drop l.w l.values) l.w l.z ≡ marking l.n l.values 0 l.initial.z)

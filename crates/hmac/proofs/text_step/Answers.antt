@@ -1,16 +1,10 @@
 use borrow.Author.Rules.{rules}
-use Rattle.hash.proofs.Blocks.{blocks_begin, blocks_end, block_room, block_place}
+use Rattle.hash.proofs.Blocks.{blocks_end, block_place}
 use Rattle.hmac.proofs.Steps.{text_next}
 use Rattle.hmac.proofs.text_step.Goals as goal
 
-pub loop-j-init : goal.loop-j-init
-loop-j-init c = (search rules, search rules, search rules, search rules, search blocks_begin)
-
-pub compress-next-requires : goal.compress-next-requires
-compress-next-requires c = (search rules, search rules, search rules, search block_room)
-
 pub loop-j-preserved : goal.loop-j-preserved
-loop-j-preserved c = (search rules, search rules, search rules, search rules, search text_next)
+loop-j-preserved c = (search rules, search rules, search rules, search text_next)
 
 pub returns : goal.returns
 returns c = (search blocks_end, search block_place)

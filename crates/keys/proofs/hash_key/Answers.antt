@@ -1,16 +1,12 @@
 use borrow.Author.Rules.{rules}
 use Rattle.hash.proofs.Blocks.{blocks_next, blocks_end, block_room}
-use Rattle.keys.proofs.Long.{hash_begins}
 use Rattle.keys.proofs.hash_key.Goals as goal
-
-pub loop-j-init : goal.loop-j-init
-loop-j-init c = (search rules, search rules, search rules, search rules, search hash_begins)
 
 pub compress-next-requires : goal.compress-next-requires
 compress-next-requires c = (search rules, search rules, search rules, search block_room)
 
 pub loop-j-preserved : goal.loop-j-preserved
-loop-j-preserved c = (search rules, search rules, search rules, search rules, search blocks_next)
+loop-j-preserved c = (search rules, search rules, search rules, search blocks_next)
 
 pub returns : goal.returns
 returns c = search blocks_end

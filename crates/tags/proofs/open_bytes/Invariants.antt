@@ -1,5 +1,5 @@
 -- up to word w the words are opened and written as bytes
-use Prim.Native.Nat.{◌-◌, ◌*◌, ◌≤◌}
+use Prim.Native.Nat.{◌*◌}
 use mathlib.Core.Path.{◌≡◌}
 use lib.ListN.{length}
 use Rattle.rules.specs.Hash.{all_bytes}
@@ -9,8 +9,5 @@ use Rattle.tags.proofs.open_bytes.Given as goal
 
 abbrev pub invariant-loop-w : goal.invariant-loop-w
 invariant-loop-w l =
-    (l.w ≤ l.count) × (length l.tag ≡ l.count * 4)
+    (length l.tag ≡ l.count * 4)
     × (Opening l.n l.count l.digest l.w l.tag ≡ all_bytes 4 (open_words l.n l.count l.digest))
-
-abbrev pub decreases-loop-w : goal.decreases-loop-w
-decreases-loop-w l = l.count - l.w
