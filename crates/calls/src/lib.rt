@@ -14,47 +14,47 @@ use rules::{Answer, Fed, State, Streamed};
 use text_numbers::{compressing, finishing, key_splitting, tagging};
 
 // A key into shares.
-pub fn split_key(code: u32, n: usize, key: &[u8], shares: &mut [u32], words: &[u32]) -> Answer
-    ensures { split_key_call (hash code) n key.now shares.old words.now
+pub fn split_key(algorithm: Algorithm, n: usize, key: &[u8], shares: &mut [u32], words: &[u32]) -> Answer
+    ensures { split_key_call (hash algorithm) n key.now shares.old words.now
         ≡ (result, shares.new) }
 {
-    let need = key_words(code, n, key.len()).drawn;
+    let need = key_words(algorithm, n, key.len()).drawn;
     let number = key_splitting(n, shares.len(), key.len(), need, words.len());
     if number != DONE {
         return answer(number, 0);
     }
-    answer(DONE, keys::split_key(code, n, key, shares, words, 0))
+    answer(DONE, keys::split_key(algorithm, n, key, shares, words, 0))
 }
 
 // One compression of a block into a chain record, which has the hash's length by its type.
-pub fn compress(code: u32, n: usize, chain: &mut [u32], block: &[u32], words: &[u32]) -> Answer
-    requires { length chain.old ≡ chain_room (standard code) }
-    ensures { compress_call (hash code) n chain.old block.now words.now
+pub fn compress(algorithm: Algorithm, n: usize, chain: &mut [u32], block: &[u32], words: &[u32]) -> Answer
+    requires { length chain.old ≡ chain_room (standard algorithm) }
+    ensures { compress_call (hash algorithm) n chain.old block.now words.now
         ≡ (result, chain.new) }
 {
-    let need = compress_words(code, n).drawn;
+    let need = compress_words(algorithm, n).drawn;
     let number = compressing(n, block.len(), need, words.len());
     if number != DONE {
         return answer(number, 0);
     }
-    answer(DONE, hash::compress_record(code, n, chain, block, words, 0))
+    answer(DONE, hash::compress_record(algorithm, n, chain, block, words, 0))
 }
 
 // The tag of a message under a key in shares.
 pub fn tag(
-    code: u32,
+    algorithm: Algorithm,
     n: usize,
     key: &[u32],
     message: &[u8],
     tag: &mut [u8],
     words: &[u32],
 ) -> Answer
-    ensures { hmac_call (hash code) n key.now message.now tag.old
+    ensures { hmac_call (hash algorithm) n key.now message.now tag.old
         words.now ≡ (result, tag.new) }
 {
-    let need = hmac_words(code, n, message.len()).drawn;
+    let need = hmac_words(algorithm, n, message.len()).drawn;
     let number = tagging(
-        code,
+        algorithm,
         n,
         key.len(),
         tag.len(),
@@ -65,7 +65,7 @@ pub fn tag(
     if number != DONE {
         return answer(number, 0);
     }
-    answer(DONE, hmac::hmac_tag(code, n, key, message, tag, words, 0))
+    answer(DONE, hmac::hmac_tag(algorithm, n, key, message, tag, words, 0))
 }
 
 // ---- streaming
@@ -82,24 +82,24 @@ fn streamed(number: u32, drawn: usize, state: State) -> Streamed
 }
 
 // The state that a message starts from, under a key in shares.
-pub fn start(code: u32, n: usize, key: &[u32], words: &[u32]) -> Streamed
-    ensures { start_call (hash code) n key.now words.now ≡ result }
+pub fn start(algorithm: Algorithm, n: usize, key: &[u32], words: &[u32]) -> Streamed
+    ensures { start_call (hash algorithm) n key.now words.now ≡ result }
 {
-    let need = start_words(code, n).drawn;
+    let need = start_words(algorithm, n).drawn;
     let number = compressing(n, key.len(), need, words.len());
     if number != DONE {
         return streamed(number, 0, states::zeros());
     }
-    let made = stream::start_at(code, n, key, words, 0);
+    let made = stream::start_at(algorithm, n, key, words, 0);
     let next = made.state;
     streamed(DONE, made.at, next)
 }
 
 // A state with one more piece of the message.
-pub fn feed(code: u32, state: State, piece: &[u8], words: &[u32]) -> Streamed
-    ensures { feed_call (hash code) state piece.now words.now ≡ result }
+pub fn feed(algorithm: Algorithm, state: State, piece: &[u8], words: &[u32]) -> Streamed
+    ensures { feed_call (hash algorithm) state piece.now words.now ≡ result }
 {
-    let made = feed::feed(code, state, piece, words);
+    let made = feed::feed(algorithm, state, piece, words);
     let fed = made.fed;
     let next = made.state;
     let Fed::Taken(drawn) = fed else {
@@ -109,18 +109,18 @@ pub fn feed(code: u32, state: State, piece: &[u8], words: &[u32]) -> Streamed
 }
 
 // The tag of what was fed to a state.
-pub fn finish(code: u32, state: State, tag: &mut [u8], words: &[u32]) -> Streamed
-    ensures { finish_call (hash code) state tag.old words.now ≡ (result, tag.new) }
+pub fn finish(algorithm: Algorithm, state: State, tag: &mut [u8], words: &[u32]) -> Streamed
+    ensures { finish_call (hash algorithm) state tag.old words.now ≡ (result, tag.new) }
 {
     let need = finish_words(
-        code,
+        algorithm,
         state.n,
         state.bytes,
         state.drawn,
         state.finished,
         state.hash,
     );
-    let number = finishing(code, need, tag.len(), words.len());
+    let number = finishing(algorithm, need, tag.len(), words.len());
     if number != DONE {
         // Written out: beside one call more, `search` no longer gets to the sizes of the state.
         return Streamed {
@@ -129,6 +129,6 @@ pub fn finish(code: u32, state: State, tag: &mut [u8], words: &[u32]) -> Streame
             state: state,
         };
     }
-    let drawn = stream::finish_at(code, state, tag, words, 0);
+    let drawn = stream::finish_at(algorithm, state, tag, words, 0);
     streamed(DONE, drawn, states::finished(state))
 }

@@ -8,6 +8,7 @@ use lib.ListN.{length, get_or, set, take, drop, replicate, length-append, length
 use lib.ListN.{get_or-append}
 use lib.Seq.{take_at, take_all, drop-drop, get_or-append-add, get_or-take, get_or-drop, length-take-le}
 use Rattle.words.proofs.Stores.{filled_next, zeros_after}
+use Rattle.rules.specs.declared.Algorithm.{Algorithm}
 use Rattle.rules.specs.declared.Sha256Chain.{Sha256Chain}
 use Rattle.rules.specs.declared.State.{State}
 use Rattle.rules.specs.Numbers.{longest_message}
@@ -62,7 +63,7 @@ full_words text h =
     ∙ sym (words_front 4 16 block (drop 64 text) (omega (arith, size)))
     ∙ ap (words_of 4 16) (take-append-drop 64 text)
 
-pub full_made : (code n : ℕ) (h tail piece bytes b ws : List ℕ) (j at : ℕ) {o : Run}
+pub full_made : (code : Algorithm) (n : ℕ) (h tail piece bytes b ws : List ℕ) (j at : ℕ) {o : Run}
     → 64 * j + 64 ≤ length tail + length piece
     → bytes ≡ take 64 (drop (64 * j) (tail ++ piece)) → (hash code).compress n h b ws at ≡ o
     → b ≡ publics n (take 16 (drop (16 * 0) (ending (SHA1 32) 0 bytes)))
@@ -74,7 +75,7 @@ full_made code n h tail piece bytes b ws j at room e f made =
     rw (← full_words (drop (64 * j) text) long, ← e, ← made) f
 
 -- ---- the full blocks, one after the other: j of them done
-module _ (code n : ℕ) (ws text : List ℕ) (count : ℕ) (e : Run) where
+module _ (code : Algorithm) (n : ℕ) (ws text : List ℕ) (count : ℕ) (e : Run) where
   pub full_next : (j p q : ℕ) (g g1 : List ℕ) → j < count
       → (hash code).compress n g (publics n (words_of 4 16 (drop (64 * j) text))) ws p ≡ (g1, q)
       → full_blocks (hash code) n (count - j) (drop (64 * j) text) g ws p ≡ e
@@ -127,7 +128,7 @@ module _ (tail piece z : List ℕ) where
       e ∙ ap₂ (λ l t. take l (drop t (tail ++ piece))) room place ∙ take_all left rest (omega (arith, over)) in
       rw (last, over, zeros_after 64 left (omega arith))
 
-pub feed_made : (code : ℕ) (s : State) (piece ws tail rest : List ℕ) (at p : ℕ) (inner : Sha256Chain) (r : State)
+pub feed_made : (code : Algorithm) (s : State) (piece ws tail rest : List ℕ) (at p : ℕ) (inner : Sha256Chain) (r : State)
     → tail ≡ take (s.bytes % 64) s.tail
     → full_blocks (hash code) s.n ((length tail + length piece) / 64) (tail ++ piece)
     (used (standard code) s.n s.inner.shares) ws at

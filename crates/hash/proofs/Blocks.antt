@@ -6,15 +6,16 @@ use native.Mathlib.Nat.{add-mul}
 use native.Mathlib.Omega.{arith}
 use lib.ListN.{take, drop}
 use lib.Seq.{drop-drop}
+use Rattle.rules.specs.declared.Algorithm.{Algorithm}
 use Rattle.rules.specs.Hmac.{blocks}
 use Rattle.rules.proofs.Loops.{Run, parts_room, parts_end}
 use Rattle.hash.specs.Hash.{hash}
 
 -- those that are left, from here on
-abbrev pub Left : ℕ → ℕ → List ℕ → List ℕ → ℕ → ℕ → List ℕ → ℕ → Run
+abbrev pub Left : Algorithm → ℕ → List ℕ → List ℕ → ℕ → ℕ → List ℕ → ℕ → Run
 Left code n ws W count j g p = blocks (hash code) n (count - j) (drop (j * (16 * n)) W) g ws p
 
-module _ (code n : ℕ) (ws W : List ℕ) (count : ℕ) (e : Run) where
+module _ (code : Algorithm) (n : ℕ) (ws W : List ℕ) (count : ℕ) (e : Run) where
   pub blocks_next : (j p q : ℕ) (b g g1 : List ℕ) → j < count → (hash code).compress n g b ws p ≡ (g1, q)
       → b ≡ take (16 * n) (drop (j * (16 * n)) W) → Left code n ws W count j g p ≡ e → Left code n ws W count (j + 1)
       g1 q ≡ e

@@ -1,6 +1,6 @@
--- What the hashes differ in, by their codes; and chain records, of which the words in use are compressed.
-use Prim.Native.Nat.{ℕ, zero, suc, ◌+◌, ◌-◌, ◌*◌, ◌≤◌, ◌<◌}
-use mathlib.Core.Path.{◌≡◌, refl, sym, ap, ◌∙◌}
+-- What the hashes differ in; and chain records, of which the words in use are compressed.
+use Prim.Native.Nat.{ℕ, ◌-◌, ◌*◌, ◌≤◌, ◌<◌}
+use mathlib.Core.Path.{◌≡◌, sym, ap, ◌∙◌}
 use mathlib.Core.List.{List, [], ◌++◌, append-nil}
 use native.Mathlib.Nat.{sub-zero, mul-le-mul_left, mul-le-mul_right}
 use native.Mathlib.Omega.{arith}
@@ -8,76 +8,17 @@ use mir.Syntax.{w64}
 use mir.Val.{Fits}
 use lib.ListN.{length, take, drop, replicate, length-append, length-drop, drop_of_length-le}
 use lib.Seq.{length-take-le, take_at, drop_at}
+use Rattle.rules.specs.declared.Algorithm.{Algorithm}
 use Rattle.rules.specs.declared.Sha256Chain.{Sha256Chain}
 use Rattle.rules.specs.Numbers.{largest}
-use Rattle.rules.specs.Shares.{add}
 use Rattle.rules.specs.Hash.{chain_words, filled}
-use Rattle.rules.specs.Standard.{SHA1}
-use Rattle.rules.specs.Standard256.{SHA256}
-use Rattle.rules.specs.Sha1.{publics, compress}
-use Rattle.rules.specs.Sha256.{compress as compress256}
-use Rattle.rules.specs.Counts.{and_draws, compress_draws, compress256_ands}
+use Rattle.rules.specs.Sha1.{publics}
 use Rattle.rules.specs.Hmac.{chain_room, used, chain_of}
 use Rattle.rules.specs.Calls.{compressed}
 use Rattle.rules.specs.Stream.{state_room}
 use Rattle.rules.proofs.Loops.{Run}
 use Rattle.hash.specs.Hash.{hash, standard}
 use Rattle.hash.proofs.Publics.{length_publics}
-
--- ---- by the code: SHA-1, or SHA-256
-module _ (code : ℕ) (is : code ≡ 0) where
-  pub sha1_words : chain_words (standard code) ≡ 5
-  sha1_words = rw is
-
-  pub sha1_draws : (n : ℕ) → (hash code).draws n ≡ compress_draws 32 n
-  sha1_draws n = rw is
-
-  pub sha1_start : (n : ℕ) (z : List ℕ) → z ≡ publics n (SHA1 32).start → z ≡ publics n (standard code).start
-  sha1_start n z e = rw is e
-
-  pub sha1_made : (n at : ℕ) (h block ws : List ℕ) (o : Run) → compress 32 (add 32) n h block ws at ≡ o
-      → (hash code).compress n h block ws at ≡ o
-  sha1_made n at h block ws o e = rw is e
-
--- a code that is not 0 is one more than another
-module _ (code : ℕ) (not : code ≡ 0 → ⊥) where
-  pub more : code ≡ suc (code - 1)
-  more = go code not
-    where
-      go : (c : ℕ) → (c ≡ 0 → ⊥) → c ≡ suc (c - 1)
-      go zero h = absurd (h refl)
-      go (suc c) h = omega arith
-
-  pub sha256_words : chain_words (standard code) ≡ 8
-  sha256_words = rw more
-
-  pub sha256_draws : (n : ℕ) → (hash code).draws n ≡ compress256_ands 32 * and_draws n
-  sha256_draws n = rw more
-
-  pub sha256_start : (n : ℕ) (z : List ℕ) → z ≡ publics n (SHA256 32).start → z ≡ publics n (standard code).start
-  sha256_start n z e = rw more e
-
-  pub sha256_made : (n at : ℕ) (h block ws : List ℕ) (o : Run) → compress256 32 (add 32) n h block ws at ≡ o
-      → (hash code).compress n h block ws at ≡ o
-  sha256_made n at h block ws o e = rw more e
-
--- a size, and the room and the place of a compression, where they are known
-module _ (code w : ℕ) (e : chain_words (standard code) ≡ w) where
-  pub words_are : w ≡ chain_words (standard code)
-  words_are = sym e
-
-  pub size_as : (l n : ℕ) → l ≡ chain_words (standard code) * n → l ≡ w * n
-  size_as l n f = rw e at f
-
-  pub size_from : (l n : ℕ) → l ≡ w * n → l ≡ chain_words (standard code) * n
-  size_from l n f = rw e f
-
-module _ (code n d : ℕ) (e : (hash code).draws n ≡ d) where
-  pub room_as : (at have : ℕ) → at + (hash code).draws n ≤ have → at + d ≤ have
-  room_as at have h = rw e at h
-
-  pub place_from : (at p : ℕ) → p ≡ at + d → p ≡ at + (hash code).draws n
-  place_from at p f = rw e f
 
 -- ---- chain_end
 module _ (n m : ℕ) (few : m ≤ 8) (low : n ≤ largest) where
@@ -87,11 +28,11 @@ module _ (n m : ℕ) (few : m ≤ 8) (low : n ≤ largest) where
   pub end_fits : Fits w64 (m * n)
   end_fits = record { fits = omega (arith, end_most) }
 
-pub end_is : (code n m : ℕ) → m ≡ chain_words (standard code) → m * n ≡ chain_words (standard code) * n
+pub end_is : (code : Algorithm) (n m : ℕ) → m ≡ chain_words (standard code) → m * n ≡ chain_words (standard code) * n
 end_is code n m e = rw e
 
 -- ---- the words in use of a chain, up to the place `end`
-module _ (code n end : ℕ) (is : end ≡ chain_words (standard code) * n) where
+module _ (code : Algorithm) (n end : ℕ) (is : end ≡ chain_words (standard code) * n) where
   -- those of a chain that starts
   pub start_made : (all z : List ℕ) → 0 < n → z ≡ publics n (standard code).start
       → used (standard code) n (z ++ drop (end - 0) all) ≡ publics n (standard code).start
@@ -179,6 +120,6 @@ pub array_end : (n end : ℕ) (all : List ℕ) → length all ≡ 128 → end �
 array_end n end all whole h low = omega arith
 
 -- ---- compress_record: a copy of the block
-pub record_copied : (code n : ℕ) (all block u ws : List ℕ) (at : ℕ) (o : Run) → u ≡ block
+pub record_copied : (code : Algorithm) (n : ℕ) (all block u ws : List ℕ) (at : ℕ) (o : Run) → u ≡ block
     → compressed (hash code) n all u ws at ≡ o → compressed (hash code) n all block ws at ≡ o
 record_copied code n all block u ws at o e f = rw e at f

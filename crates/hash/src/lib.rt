@@ -1,4 +1,4 @@
-// The hashes that HMAC is over, by their codes: how many words a chain has, the one that starts a hash, and the
+// The hashes that HMAC is over: how many words a chain has, the one that starts a hash, and the
 // compression. The one crate that says which there are.
 #![tactic(auto)]
 
@@ -13,7 +13,9 @@ ghost use Rattle.rules.specs.Stream.{state_room};
 ghost use Rattle.hash.specs.Hash.{hash, standard};
 
 use masked_words::clear;
-use rules::{BLOCK, BLOCK_WORDS, CHAIN_WORDS, SHA1, SHA256_CHAIN, SHA256_CHAIN_WORDS, Sha256Chain};
+use rules::{
+    Algorithm, BLOCK, BLOCK_WORDS, CHAIN_WORDS, SHA256_CHAIN, SHA256_CHAIN_WORDS, Sha256Chain,
+};
 
 // ---- public words
 
@@ -48,55 +50,44 @@ pub fn publish(n: usize, values: &[u32], z: &mut [u32])
 // ---- what the hashes differ in
 
 // The words of a chain.
-pub fn chain_words(code: u32) -> usize
-    ensures { (result ≡ chain_words (standard code)) × (result ≤ 8) }
+pub fn chain_words(algorithm: Algorithm) -> usize
+    ensures { (result ≡ chain_words (standard algorithm)) × (result ≤ 8) }
 {
-    if code == SHA1 {
-        return CHAIN_WORDS;
+    match algorithm {
+        Algorithm::Sha1 => CHAIN_WORDS,
+        Algorithm::Sha256 => SHA256_CHAIN_WORDS,
     }
-    SHA256_CHAIN_WORDS
 }
 
 // The places of a chain that are used.
-pub fn chain_end(code: u32, n: usize) -> usize
+pub fn chain_end(algorithm: Algorithm, n: usize) -> usize
     requires { n ≤ largest }
-    ensures { (result ≡ chain_words (standard code) * n) × (result ≤ 8 * n) }
+    ensures { (result ≡ chain_words (standard algorithm) * n) × (result ≤ 8 * n) }
 {
-    chain_words(code) * n
+    chain_words(algorithm) * n
 }
 
-// The starting chain, as public words.
-fn start_in(code: u32, n: usize, z: &mut [u32])
-    requires { (0 < n) × (length z.old ≡ chain_words (standard code) * n) }
-    ensures { z.new ≡ publics n (standard code).start }
+// The starting chains.
+const SHA1_START: [u32; CHAIN_WORDS] = [0x67452301, 0xefcdab89, 0x98badcfe, 0x10325476, 0xc3d2e1f0];
+
+const SHA256_START: [u32; SHA256_CHAIN_WORDS] = [
+    0x6a09e667, 0xbb67ae85, 0x3c6ef372, 0xa54ff53a, 0x510e527f, 0x9b05688c, 0x1f83d9ab, 0x5be0cd19,
+];
+
+// The one of a hash, as public words.
+fn start_in(algorithm: Algorithm, n: usize, z: &mut [u32])
+    requires { (0 < n) × (length z.old ≡ chain_words (standard algorithm) * n) }
+    ensures { z.new ≡ publics n (standard algorithm).start }
 {
-    if code == SHA1 {
-        let five = [
-            0x67452301u32,
-            0xefcdab89,
-            0x98badcfe,
-            0x10325476,
-            0xc3d2e1f0,
-        ];
-        publish(n, &five, z);
-        return;
+    match algorithm {
+        Algorithm::Sha1 => publish(n, &SHA1_START, z),
+        Algorithm::Sha256 => publish(n, &SHA256_START, z),
     }
-    let eight = [
-        0x6a09e667u32,
-        0xbb67ae85,
-        0x3c6ef372,
-        0xa54ff53a,
-        0x510e527f,
-        0x9b05688c,
-        0x1f83d9ab,
-        0x5be0cd19,
-    ];
-    publish(n, &eight, z);
 }
 
 // The chain z becomes the one after a block of 16n words, which is used up, from the word at `at` on.
 fn compress_at(
-    code: u32,
+    algorithm: Algorithm,
     n: usize,
     block: &mut [u32],
     z: &mut [u32],
@@ -104,16 +95,16 @@ fn compress_at(
     at: usize,
 ) -> usize
     requires { (0 < n) × (n ≤ largest) × (length block.old ≡ 16 * n)
-        × (length z.old ≡ chain_words (standard code) * n)
-        × (at + (hash code).draws n ≤ length words.now) }
-    ensures { ((hash code).compress n z.old block.old words.now at
+        × (length z.old ≡ chain_words (standard algorithm) * n)
+        × (at + (hash algorithm).draws n ≤ length words.now) }
+    ensures { ((hash algorithm).compress n z.old block.old words.now at
         ≡ (z.new, result))
-        × (length z.new ≡ chain_words (standard code) * n) × (result ≡ at + (hash code).draws n) }
+        × (length z.new ≡ chain_words (standard algorithm) * n) × (result ≡ at + (hash algorithm).draws n) }
 {
-    if code == SHA1 {
-        return masked_sha1::compress_at(n, block, z, words, at);
+    match algorithm {
+        Algorithm::Sha1 => masked_sha1::compress_at(n, block, z, words, at),
+        Algorithm::Sha256 => sha256::compress_at(n, block, z, words, at),
     }
-    sha256::compress_at(n, block, z, words, at)
 }
 
 // ---- chains as a state keeps them
@@ -126,20 +117,20 @@ pub struct Stepped {
 }
 
 // The chain that starts a hash.
-pub fn start(code: u32, n: usize) -> Sha256Chain
+pub fn start(algorithm: Algorithm, n: usize) -> Sha256Chain
     requires { (0 < n) × (n ≤ largest) }
-    ensures { used (standard code) n result.shares ≡ publics n (standard code).start }
+    ensures { used (standard algorithm) n result.shares ≡ publics n (standard algorithm).start }
 {
-    let end = chain_end(code, n);
+    let end = chain_end(algorithm, n);
     let mut all = [0u32; SHA256_CHAIN];
     let front = &mut all[0..end];
-    start_in(code, n, front);
+    start_in(algorithm, n, front);
     Sha256Chain { shares: all }
 }
 
 // One compression, of a block of 16n words into a chain, from the word at `at` on. The block is used up.
 pub fn compress(
-    code: u32,
+    algorithm: Algorithm,
     n: usize,
     chain: Sha256Chain,
     block: &mut [u32],
@@ -147,15 +138,15 @@ pub fn compress(
     at: usize,
 ) -> Stepped
     requires { (0 < n) × (n ≤ largest) × (length block.old ≡ 16 * n)
-        × (at + (hash code).draws n ≤ length words.now) }
-    ensures { ((hash code).compress n (used (standard code) n chain.shares) block.old
-        words.now at ≡ (used (standard code) n result.chain.shares, result.at))
-        × (result.at ≡ at + (hash code).draws n) }
+        × (at + (hash algorithm).draws n ≤ length words.now) }
+    ensures { ((hash algorithm).compress n (used (standard algorithm) n chain.shares) block.old
+        words.now at ≡ (used (standard algorithm) n result.chain.shares, result.at))
+        × (result.at ≡ at + (hash algorithm).draws n) }
 {
-    let end = chain_end(code, n);
+    let end = chain_end(algorithm, n);
     let mut all = chain.shares;
     let z = &mut all[0..end];
-    let p = compress_at(code, n, block, z, words, at);
+    let p = compress_at(algorithm, n, block, z, words, at);
     Stepped {
         chain: Sha256Chain { shares: all },
         at: p,
@@ -174,11 +165,11 @@ fn clear_rest(end: usize, chain: &mut [u32])
 }
 
 // A chain with 0 in its unused words.
-pub fn cleared(code: u32, n: usize, chain: Sha256Chain) -> Sha256Chain
+pub fn cleared(algorithm: Algorithm, n: usize, chain: Sha256Chain) -> Sha256Chain
     requires { n ≤ largest }
-    ensures { result ≡ record { shares = filled state_room (used (standard code) n chain.shares) } }
+    ensures { result ≡ record { shares = filled state_room (used (standard algorithm) n chain.shares) } }
 {
-    let end = chain_end(code, n);
+    let end = chain_end(algorithm, n);
     let mut all = chain.shares;
     clear_rest(end, &mut all);
     Sha256Chain { shares: all }
@@ -188,7 +179,7 @@ pub fn cleared(code: u32, n: usize, chain: Sha256Chain) -> Sha256Chain
 
 // The record becomes the one after a block, which is used up, with 0 in its unused words, from the word at `at` on.
 fn compress_in(
-    code: u32,
+    algorithm: Algorithm,
     n: usize,
     chain: &mut [u32],
     block: &mut [u32],
@@ -196,20 +187,20 @@ fn compress_in(
     at: usize,
 ) -> usize
     requires { (0 < n) × (n ≤ largest) × (length block.old ≡ 16 * n)
-        × (length chain.old ≡ chain_room (standard code))
-        × (at + (hash code).draws n ≤ length words.now) }
-    ensures { compressed (hash code) n chain.old block.old words.now at
+        × (length chain.old ≡ chain_room (standard algorithm))
+        × (at + (hash algorithm).draws n ≤ length words.now) }
+    ensures { compressed (hash algorithm) n chain.old block.old words.now at
         ≡ (chain.new, result) }
 {
-    let end = chain_end(code, n);
+    let end = chain_end(algorithm, n);
     clear_rest(end, chain);
     let z = &mut chain[0..end];
-    compress_at(code, n, block, z, words, at)
+    compress_at(algorithm, n, block, z, words, at)
 }
 
 // The same of a block that stays as it is.
 pub fn compress_record(
-    code: u32,
+    algorithm: Algorithm,
     n: usize,
     chain: &mut [u32],
     block: &[u32],
@@ -217,14 +208,14 @@ pub fn compress_record(
     at: usize,
 ) -> usize
     requires { (0 < n) × (n ≤ largest) × (length block.now ≡ 16 * n)
-        × (length chain.old ≡ chain_room (standard code))
-        × (at + (hash code).draws n ≤ length words.now) }
-    ensures { compressed (hash code) n chain.old block.now words.now at
+        × (length chain.old ≡ chain_room (standard algorithm))
+        × (at + (hash algorithm).draws n ≤ length words.now) }
+    ensures { compressed (hash algorithm) n chain.old block.now words.now at
         ≡ (chain.new, result) }
 {
     let m = BLOCK_WORDS * n;
     let mut u0 = [0u32; BLOCK];
     let u = &mut u0[0..m];
     shares::copy(block, u);
-    compress_in(code, n, chain, u, words, at)
+    compress_in(algorithm, n, chain, u, words, at)
 }

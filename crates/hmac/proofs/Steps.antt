@@ -6,6 +6,9 @@ use native.Mathlib.Omega.{arith}
 use native.Mathlib.Nat.{add-mul, mul_comm, mul_assoc, sub-zero}
 use lib.ListN.{length, take, drop, replicate, length-drop, drop_of_length-le}
 use lib.Seq.{length-take-le, take_at, drop_at}
+use Rattle.rules.specs.declared.Algorithm.{Algorithm}
+use Rattle.rules.specs.declared.Algorithm.TheVariants.{Sha1, Sha256}
+use Rattle.rules.specs.Refusals.{code_of}
 use Rattle.rules.specs.Hash.{Hash, chain_words, bytes_of, number_of, words_of, zeros, padding, ending}
 use Rattle.rules.specs.Standard.{SHA1}
 use Rattle.rules.specs.Sha1.{publics}
@@ -16,7 +19,7 @@ use Rattle.rules.proofs.Hashes.{ending_blocks}
 use Rattle.rules.proofs.Tags.{hash_proper}
 use Rattle.hash.specs.Hash.{hash, standard}
 use Rattle.hash.proofs.Publics.{publics_part}
-use Rattle.hash.proofs.Chains.{more, lent}
+use Rattle.hash.proofs.Chains.{lent}
 use Rattle.hash.proofs.Blocks.{Left, blocks_next}
 use Rattle.padding.specs.Whole.{blocks_in}
 use Rattle.padding.proofs.Padded.{any_ending}
@@ -31,7 +34,7 @@ pub public_made : (n : ℕ) (values v z : List ℕ) → v ≡ values → z ≡ p
 public_made n values v z e f = rw (← e) f
 
 -- ---- one compression, of a block that was made so
-module _ (code n : ℕ) (ws : List ℕ) (at : ℕ) where
+module _ (code : Algorithm) (n : ℕ) (ws : List ℕ) (at : ℕ) where
   abbrev M : Masked
   M = hash code
 
@@ -56,7 +59,7 @@ module _ (code n : ℕ) (ws : List ℕ) (at : ℕ) where
       → blocks M n (blocks_in (length text)) (publics n (ending H 64 text)) i ws p ≡ o
       → inner_hash M n key text ws at ≡ o
   unfolding inner_hash number_of
-  inner_made key text a b = rw (ending_blocks H (hash_proper 32 code) 1 64 refl text, a, b)
+  inner_made key text a b = rw (ending_blocks H (hash_proper 32 (code_of code)) 1 64 refl text, a, b)
 
   pub outer_made : (key d : List ℕ) {g : List ℕ} {p : ℕ} {o : Run}
       → M.compress n (publics n H.start) (marked n (replicate 16 0x5c5c5c5c) key) ws at ≡ (g, p)
@@ -70,7 +73,7 @@ module _ (code n : ℕ) (ws : List ℕ) (at : ℕ) where
   hmac_made key text a b = rw (a, b)
 
 -- ---- one block more of a text
-pub text_next : (code n : ℕ) (ws : List ℕ) (before : ℕ) (text : List ℕ) (count : ℕ) (e : Run) (j p q : ℕ)
+pub text_next : (code : Algorithm) (n : ℕ) (ws : List ℕ) (before : ℕ) (text : List ℕ) (count : ℕ) (e : Run) (j p q : ℕ)
     (b g g1 : List ℕ) → 0 < n → j < count → (hash code).compress n g b ws p ≡ (g1, q)
     → b ≡ publics n (take 16 (drop (16 * j) (ending (SHA1 32) before text)))
     → (let W = ending (standard code) before text in
@@ -81,7 +84,7 @@ text_next code n ws before text count e j p q b g g1 some l f made =
     let block : publics n (take 16 (drop (16 * j) W)) ≡ take (16 * n) (drop (j * (16 * n)) (publics n W)) =
     sym (ap (λ t. take (16 * n) (drop t (publics n W))) (sym place) ∙ publics_part n some 16 (16 * j) W) in
     let its : b ≡ publics n (take 16 (drop (16 * j) W)) =
-    made ∙ ap (λ t. publics n (take 16 (drop (16 * j) t))) (any_ending code before text) in
+    made ∙ ap (λ t. publics n (take 16 (drop (16 * j) t))) (any_ending (code_of code) before text) in
     blocks_next code n ws (publics n W) count e j p q b g g1 l f (its ∙ block)
 
 -- ---- the digest block: the inner digest d, stored in front of anything, and the padding x after it
@@ -97,25 +100,18 @@ digest_made n inner d x z p few size e f =
     rw (e, sub-zero m, take_at inner rest m refl, drop_at inner rest m refl, none, append-nil x, f)
 
 -- its padding, by the code
-pub sha1_padding : (code n : ℕ) (z : List ℕ) → code ≡ 0
+pub sha1_padding : (code : Algorithm) (n : ℕ) (z : List ℕ) → code ≡ Sha1
     → z ≡ publics n (0x80000000 ∷ 0 ∷ 0 ∷ 0 ∷ 0 ∷ 0 ∷ 0 ∷ 0 ∷ 0 ∷ 0 ∷ 672 ∷ []) → z
     ≡ publics n (digest_padding (standard code))
 unfolding words_of number_of padding zeros bytes_of
 sha1_padding code n z is e = rw is e
 
-pub sha256_padding : (code n : ℕ) (z : List ℕ) → (code ≡ 0 → ⊥)
+pub sha256_padding : (code : Algorithm) (n : ℕ) (z : List ℕ) → code ≡ Sha256
     → z ≡ publics n (0x80000000 ∷ 0 ∷ 0 ∷ 0 ∷ 0 ∷ 0 ∷ 0 ∷ 768 ∷ []) → z ≡ publics n (digest_padding (standard code))
 unfolding words_of number_of padding zeros bytes_of
-sha256_padding code n z not e = rw (more code not) e
+sha256_padding code n z is e = rw is e
 
--- the places that are left for it
-pub sha1_left : (code n l : ℕ) → code ≡ 0 → l ≡ (16 - chain_words (standard code)) * n → l ≡ 11 * n
-sha1_left code n l is e = rw is at e
-
-pub sha256_left : (code n l : ℕ) → (code ≡ 0 → ⊥) → l ≡ (16 - chain_words (standard code)) * n → l ≡ 8 * n
-sha256_left code n l not e = rw (more code not) at e
-
-pub padding_part : (code n : ℕ) (inner d z : List ℕ) → length inner ≡ chain_words (standard code) * n
+pub padding_part : (code : Algorithm) (n : ℕ) (inner d z : List ℕ) → length inner ≡ chain_words (standard code) * n
     → length z ≡ 16 * n
     → d ≡ inner → (let m = length inner in
     length (take (length z - m) (drop m (d ++ drop (m - 0) z))) ≡ (16 - chain_words (standard code)) * n)
@@ -125,7 +121,7 @@ padding_part code n inner d z is size e =
     let rest = drop m z in
     let left : length rest ≡ length z - m = length-drop m z in
     let parts : 16 * n ≡ w * n + (16 - w) * n =
-    ap (λ t. t * n) (omega (arith, (hash_proper 32 code).short)) ∙ add-mul w (16 - w) n in
+    ap (λ t. t * n) (omega (arith, (hash_proper 32 (code_of code)).short)) ∙ add-mul w (16 - w) n in
     rw (e, sub-zero m, drop_at inner rest m refl, length-take-le (length z - m) rest (omega arith)) (omega arith)
 
 -- ---- how many words HMAC draws, at d words a compression, and that they are there for both of its halves
@@ -142,7 +138,7 @@ module _ (l d at : ℕ) where
   pub outer_room : (have p : ℕ) → all ≤ have → p ≡ at + d + blocks_in l * d → p + d + d ≤ have
   outer_room have p h a = omega (arith, hmac_count p (p + d + d) a refl)
 
-pub tag_made : (code n : ℕ) (key text ws t : List ℕ) (at p : ℕ) {s : List ℕ}
+pub tag_made : (code : Algorithm) (n : ℕ) (key text ws t : List ℕ) (at p : ℕ) {s : List ℕ}
     → hmac_shares (hash code) n key text ws at ≡ (s, p) → t ≡ tag_of (standard code) n s
     → hmac_tag (hash code) n key text ws at ≡ (t, p)
 unfolding hmac_tag

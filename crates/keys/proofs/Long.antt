@@ -9,6 +9,8 @@ use lib.ListN.{length, take, drop, replicate, length-replicate}
 use lib.Seq.{take_at}
 use borrow.Author.Tests.{le-leb, lt-leb}
 use Rattle.words.proofs.Stores.{lent_zeros, zeros_after}
+use Rattle.rules.specs.declared.Algorithm.{Algorithm}
+use Rattle.rules.specs.Refusals.{code_of}
 use Rattle.rules.specs.Numbers.{largest, longest_key}
 use Rattle.rules.specs.Hash.{Hash, chain_words, ending, filled}
 use Rattle.rules.specs.Standard.{SHA1}
@@ -66,7 +68,7 @@ module _ (n : ℕ) (some : 0 < n) (bytes : ℕ) (lasts ws : List ℕ) (at j : �
       ∙ each_take bit_xor (16 * n) (drop (j * (16 * n)) whole) (drop (j * (16 * n)) (publics n pads))))
 
 -- ---- the digest's words, then zero shares
-pub digest_made : (code n m end : ℕ) (chain zs d : List ℕ) → end ≡ chain_words (standard code) * n
+pub digest_made : (code : Algorithm) (n m end : ℕ) (chain zs d : List ℕ) → end ≡ chain_words (standard code) * n
     → length chain ≡ 128 → end ≤ 8 * n → n ≤ largest → m ≡ 16 * n → zs ≡ replicate m 0 → d
     ≡ take (end - 0) chain
     → d ++ drop (end - 0) zs ≡ filled (16 * n) (used (standard code) n chain)
@@ -77,7 +79,7 @@ digest_made code n m end chain zs d is whole most low size e f =
     rw (e, f, lent code n end is chain, size, zeros_after (16 * n) end (omega arith), long)
 
 -- ---- the whole of it
-module _ (code n : ℕ) (key ws : List ℕ) (at : ℕ) where
+module _ (code : Algorithm) (n : ℕ) (key ws : List ℕ) (at : ℕ) where
   abbrev l : ℕ
   l = length key
 
@@ -106,7 +108,7 @@ module _ (code n : ℕ) (key ws : List ℕ) (at : ℕ) where
       let made : blocks (hash code) n (blocks_in l) (padded n l (held n (last_shares n vs ws at) ws at))
       (publics n (standard code).start) ws
       (at + length vs * (n - 1)) ≡ (d, q) = rw many (rw (f, g, e) at h) in
-      rw (splits_held n ws vs at, ← any_ending code 0 (replicate l 0), pad_blocks H (hash_proper 32 0) key, made)
+      rw (splits_held n ws vs at, ← any_ending (code_of code) 0 (replicate l 0), pad_blocks H (hash_proper 32 0) key, made)
 
   -- ---- by the length of the key
   pub long_made : (d z : List ℕ) (q : ℕ) → hash_key (hash code) n key ws at ≡ (d, q) → z ≡ d

@@ -17,7 +17,7 @@ use hash::{Stepped, chain_end, mark};
 use key_words::{held_block, last_shares};
 use masked_words::clear;
 use padding::{blocks_in, padding_words};
-use rules::{BLOCK_BYTES, BLOCK_WORDS, KEY, Sha256Chain, WORD_BYTES};
+use rules::{Algorithm, BLOCK_BYTES, BLOCK_WORDS, KEY, Sha256Chain, WORD_BYTES};
 
 // A key of at most one block into shares, from the word at `at` on; the place after.
 fn short_key(n: usize, key: &[u8], shares: &mut [u32], words: &[u32], at: usize) -> usize
@@ -58,7 +58,7 @@ fn padded_block(
 // room
 // for one.
 fn hash_key(
-    code: u32,
+    algorithm: Algorithm,
     n: usize,
     bytes: usize,
     lasts: &[u32],
@@ -69,18 +69,18 @@ fn hash_key(
 ) -> Stepped
     requires { (0 < n) × (n ≤ largest) × (bytes ≤ longest_key) × (length block.old ≡ 16 * n)
         × (at + length lasts.now * (n - 1) ≤ length words.now)
-        × (p + blocks_in bytes * (hash code).draws n ≤ length words.now) }
-    ensures { blocks (hash code) n (blocks_in bytes)
+        × (p + blocks_in bytes * (hash algorithm).draws n ≤ length words.now) }
+    ensures { blocks (hash algorithm) n (blocks_in bytes)
         (padded n bytes (held n lasts.now words.now at))
-        (publics n (standard code).start) words.now p
-        ≡ (used (standard code) n result.chain.shares, result.at) }
+        (publics n (standard algorithm).start) words.now p
+        ≡ (used (standard algorithm) n result.chain.shares, result.at) }
 {
     let count = blocks_in(bytes);
-    let mut c = hash::start(code, n);
+    let mut c = hash::start(algorithm, n);
     let mut q = p;
     for j in 0..count {
         padded_block(n, bytes, lasts, j, block, words, at);
-        let next = hash::compress(code, n, c, block, words, q);
+        let next = hash::compress(algorithm, n, c, block, words, q);
         c = next.chain;
         q = next.at;
     }
@@ -88,11 +88,11 @@ fn hash_key(
 }
 
 // The digest's words, then zero shares.
-fn digest_block(code: u32, n: usize, chain: Sha256Chain, z: &mut [u32])
+fn digest_block(algorithm: Algorithm, n: usize, chain: Sha256Chain, z: &mut [u32])
     requires { (n ≤ largest) × (length z.old ≡ 16 * n) }
-    ensures { z.new ≡ filled (16 * n) (used (standard code) n chain.shares) }
+    ensures { z.new ≡ filled (16 * n) (used (standard algorithm) n chain.shares) }
 {
-    let m = chain_end(code, n);
+    let m = chain_end(algorithm, n);
     let all = chain.shares;
     let digest = &all[0..m];
     clear(z);
@@ -103,7 +103,7 @@ fn digest_block(code: u32, n: usize, chain: Sha256Chain, z: &mut [u32])
 // The key's words split, then hashed, from the word at `at` on. `lasts` is room for the last shares, `block` for a
 // block.
 fn key_digest(
-    code: u32,
+    algorithm: Algorithm,
     n: usize,
     key: &[u8],
     lasts: &mut [u32],
@@ -113,33 +113,40 @@ fn key_digest(
 ) -> Stepped
     requires { (0 < n) × (n ≤ largest) × (64 < length key.now) × (length key.now ≤ longest_key)
         × (length lasts.old ≡ (length key.now + 3) / 4) × (length block.old ≡ 16 * n)
-        × (at + key_draws (hash code) n (length key.now) ≤ length words.now) }
-    ensures { hash_key (hash code) n key.now words.now at
-        ≡ (filled (16 * n) (used (standard code) n result.chain.shares), result.at) }
+        × (at + key_draws (hash algorithm) n (length key.now) ≤ length words.now) }
+    ensures { hash_key (hash algorithm) n key.now words.now at
+        ≡ (filled (16 * n) (used (standard algorithm) n result.chain.shares), result.at) }
 {
     let p = last_shares(n, key, lasts, words, at);
-    hash_key(code, n, key.len(), lasts, block, words, at, p)
+    hash_key(algorithm, n, key.len(), lasts, block, words, at, p)
 }
 
 // A key over one block into shares, from the word at `at` on; the place after. Until the digest stands there, `shares`
 // is
 // room for a block.
-fn long_key(code: u32, n: usize, key: &[u8], shares: &mut [u32], words: &[u32], at: usize) -> usize
+fn long_key(
+    algorithm: Algorithm,
+    n: usize,
+    key: &[u8],
+    shares: &mut [u32],
+    words: &[u32],
+    at: usize,
+) -> usize
     requires { (0 < n) × (n ≤ largest) × (64 < length key.now) × (length key.now ≤ longest_key)
-        × (length shares.old ≡ 16 * n) × (at + key_draws (hash code) n (length key.now) ≤ length words.now) }
-    ensures { hash_key (hash code) n key.now words.now at ≡ (shares.new, result) }
+        × (length shares.old ≡ 16 * n) × (at + key_draws (hash algorithm) n (length key.now) ≤ length words.now) }
+    ensures { hash_key (hash algorithm) n key.now words.now at ≡ (shares.new, result) }
 {
     let count = (key.len() + (WORD_BYTES - 1)) / WORD_BYTES;
     let mut all = [0u32; KEY];
     let lasts = &mut all[0..count];
-    let made = key_digest(code, n, key, lasts, shares, words, at);
-    digest_block(code, n, made.chain, shares);
+    let made = key_digest(algorithm, n, key, lasts, shares, words, at);
+    digest_block(algorithm, n, made.chain, shares);
     made.at
 }
 
 // A key into shares, from the word at `at` on; the place after.
 pub fn split_key(
-    code: u32,
+    algorithm: Algorithm,
     n: usize,
     key: &[u8],
     shares: &mut [u32],
@@ -147,11 +154,11 @@ pub fn split_key(
     at: usize,
 ) -> usize
     requires { (0 < n) × (n ≤ largest) × (length key.now ≤ longest_key) × (length shares.old ≡ 16 * n)
-        × (at + key_draws (hash code) n (length key.now) ≤ length words.now) }
-    ensures { split_key (hash code) n key.now words.now at ≡ (shares.new, result) }
+        × (at + key_draws (hash algorithm) n (length key.now) ≤ length words.now) }
+    ensures { split_key (hash algorithm) n key.now words.now at ≡ (shares.new, result) }
 {
     if BLOCK_BYTES < key.len() {
-        return long_key(code, n, key, shares, words, at);
+        return long_key(algorithm, n, key, shares, words, at);
     }
     short_key(n, key, shares, words, at)
 }

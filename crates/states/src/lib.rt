@@ -3,6 +3,7 @@
 
 ghost use Rattle.std.specs.Prelude.{◌≡◌, ◌%◌, ◌≤◌, ◌<◌, length, take};
 ghost use Rattle.rules.specs.Numbers.{largest, longest_message};
+ghost use Rattle.rules.specs.Refusals.{code_of};
 ghost use Rattle.rules.specs.Hash.{filled};
 ghost use Rattle.rules.specs.Hmac.{used};
 ghost use Rattle.rules.specs.Counts.{state_draws};
@@ -10,11 +11,11 @@ ghost use Rattle.rules.specs.Stream.{state_room, state_of_zeros, closed};
 ghost use Rattle.hash.specs.Hash.{hash, standard};
 
 use counts::state_words;
-use rules::{BLOCK_BYTES, SHA256_CHAIN, Sha256Chain, State};
+use rules::{Algorithm, BLOCK_BYTES, SHA256_CHAIN, Sha256Chain, State};
 
 // A state made anew, of a tail that has 0 in its unfilled bytes.
 pub fn state_of(
-    code: u32,
+    algorithm: Algorithm,
     n: usize,
     bytes: usize,
     inner: Sha256Chain,
@@ -25,23 +26,23 @@ pub fn state_of(
     ensures { result ≡ record {
       n = n;
       bytes = bytes;
-      drawn = state_draws (hash code) n bytes;
+      drawn = state_draws (hash algorithm) n bytes;
       finished = 0;
-      hash = code;
-      inner = record { shares = filled state_room (used (standard code) n inner.shares) };
-      outer = record { shares = filled state_room (used (standard code) n outer.shares) };
+      hash = code_of algorithm;
+      inner = record { shares = filled state_room (used (standard algorithm) n inner.shares) };
+      outer = record { shares = filled state_room (used (standard algorithm) n outer.shares) };
       tail = tail;
     } }
 {
     State {
-        n: n,
-        bytes: bytes,
-        drawn: state_words(code, n, bytes),
+        n,
+        bytes,
+        drawn: state_words(algorithm, n, bytes),
         finished: 0,
-        hash: code,
-        inner: hash::cleared(code, n, inner),
-        outer: hash::cleared(code, n, outer),
-        tail: tail,
+        hash: algorithm as u32,
+        inner: hash::cleared(algorithm, n, inner),
+        outer: hash::cleared(algorithm, n, outer),
+        tail,
     }
 }
 
@@ -64,23 +65,11 @@ pub fn zeros() -> State
     }
 }
 
-// A state after its tag was handed out.
-pub fn finished(state: State) -> State
-    ensures { result ≡ closed state }
+// A state's tag was handed out.
+pub fn close(state: &mut State)
+    ensures { state.new ≡ closed state.old }
 {
-    let inner = state.inner;
-    let outer = state.outer;
-    let tail = state.tail;
-    State {
-        n: state.n,
-        bytes: state.bytes,
-        drawn: state.drawn,
-        finished: 1,
-        hash: state.hash,
-        inner: inner,
-        outer: outer,
-        tail: tail,
-    }
+    state.finished = 1;
 }
 
 // The bytes of a tail that wait, of the block that is not yet full, where so many bytes were fed.

@@ -5,8 +5,10 @@ use mathlib.Core.List.{List, ◌++◌}
 use native.Mathlib.Omega.{arith}
 use native.Mathlib.Nat.{add-mul}
 use lib.ListN.{length, take, replicate}
+use Rattle.rules.specs.declared.Algorithm.{Algorithm}
 use Rattle.rules.specs.declared.Sha256Chain.{Sha256Chain}
 use Rattle.rules.specs.declared.State.{State}
+use Rattle.rules.specs.Refusals.{code_of}
 use Rattle.rules.specs.Numbers.{longest_message}
 use Rattle.rules.specs.Hash.{number_of, ending, filled}
 use Rattle.rules.specs.Sha1.{publics}
@@ -19,7 +21,7 @@ use Rattle.hash.specs.Hash.{hash, standard}
 use Rattle.padding.specs.Whole.{blocks_in}
 
 -- ---- a state after both key blocks
-pub start_made : (code n : ℕ) (key ws : List ℕ) (at p q : ℕ) (i o : Sha256Chain) (s : State)
+pub start_made : (code : Algorithm) (n : ℕ) (key ws : List ℕ) (at p q : ℕ) (i o : Sha256Chain) (s : State)
     → (let M = hash code in
     let H = standard code in
     M.compress n (publics n H.start) (marked n (replicate 16 0x36363636) key) ws at ≡ (used H n i.shares, p)
@@ -63,7 +65,7 @@ module _ (bytes : ℕ) (tail : List ℕ) (size : length tail ≡ bytes % 64) whe
       finish_place q f = f ∙ ap (λ t. t + d) e ∙ all_blocks
 
 -- ---- the tag: the rest of the message with its padding, then the digest block
-pub finish_made : (code : ℕ) (s : State) (ws tail tag : List ℕ) (at p q : ℕ) (inner last : Sha256Chain)
+pub finish_made : (code : Algorithm) (s : State) (ws tail tag : List ℕ) (at p q : ℕ) (inner last : Sha256Chain)
     → (let M = hash code in
     let H = standard code in
     tail ≡ take (s.bytes % 64) s.tail
@@ -78,4 +80,4 @@ pub finish_made : (code : ℕ) (s : State) (ws tail tag : List ℕ) (at p q : �
 unfolding finish used
 finish_made code s ws tail tag at p q inner last waits text digest opened =
     let m = s.bytes / 64 + 1 in
-    rw (← waits, ending_blocks (standard code) (hash_proper 32 code) m (m * 64) refl tail, text, digest, opened)
+    rw (← waits, ending_blocks (standard code) (hash_proper 32 (code_of code)) m (m * 64) refl tail, text, digest, opened)

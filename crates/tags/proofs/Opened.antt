@@ -6,6 +6,7 @@ use native.Mathlib.Omega.{arith}
 use native.Mathlib.Nat.{add-mul}
 use lib.ListN.{length, take, drop}
 use lib.Seq.{take_all, drop-drop}
+use Rattle.rules.specs.declared.Algorithm.{Algorithm}
 use Rattle.rules.specs.Numbers.{largest}
 use Rattle.rules.specs.Supply.{opened}
 use Rattle.rules.specs.Hash.{chain_words, digest_bytes, bytes_of, all_bytes}
@@ -37,7 +38,7 @@ module _ (n m : ℕ) (s : List ℕ) where
       sym (append-nil tag) ∙ ap (λ (t : List ℕ). t ++ []) (sym (take_all (4 * w) tag (omega arith))) ∙ (rw none at p)
 
 -- the used words of a chain, lent and opened
-module _ (code n m end : ℕ) (words : m ≡ chain_words (standard code)) where
+module _ (code : Algorithm) (n m end : ℕ) (words : m ≡ chain_words (standard code)) where
   pub lent_words : (chain : List ℕ) → length chain ≡ 128 → end ≡ chain_words (standard code) * n
       → end ≤ 8 * n → n ≤ largest → length (take (end - 0) chain) ≡ m * n
   lent_words chain whole is most low = rw words (lent_size code n end is chain (array_end n end chain whole most low))

@@ -9,7 +9,7 @@ ghost use Rattle.rules.specs.Hmac.{used, tag_of};
 ghost use Rattle.hash.specs.Hash.{standard};
 
 use hash::{chain_end, chain_words};
-use rules::{Sha256Chain, WORD_BYTES};
+use rules::{Algorithm, Sha256Chain, WORD_BYTES};
 
 // Word w of a tag becomes the bytes of v, the highest first.
 fn put_bytes(v: u32, w: usize, tag: &mut [u8])
@@ -32,11 +32,11 @@ fn open_bytes(n: usize, count: usize, digest: &[u32], tag: &mut [u8])
 }
 
 // A tag in shares, opened: its bytes.
-pub fn tag_bytes(code: u32, n: usize, chain: Sha256Chain, tag: &mut [u8])
-    requires { (n ≤ largest) × (length tag.old ≡ digest_bytes (standard code)) }
-    ensures { tag.new ≡ tag_of (standard code) n (used (standard code) n chain.shares) }
+pub fn tag_bytes(algorithm: Algorithm, n: usize, chain: Sha256Chain, tag: &mut [u8])
+    requires { (n ≤ largest) × (length tag.old ≡ digest_bytes (standard algorithm)) }
+    ensures { tag.new ≡ tag_of (standard algorithm) n (used (standard algorithm) n chain.shares) }
 {
-    let end = chain_end(code, n);
+    let end = chain_end(algorithm, n);
     let all = chain.shares;
-    open_bytes(n, chain_words(code), &all[0..end], tag);
+    open_bytes(n, chain_words(algorithm), &all[0..end], tag);
 }

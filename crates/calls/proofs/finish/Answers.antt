@@ -9,7 +9,7 @@ pub finish_at-drawn-requires : goal.finish_at-drawn-requires
 finish_at-drawn-requires c =
     let asked = c in
     let a = asked.args in
-    finish_ready a.code _ _ a.state.drawn a.state.finished a.state.hash _ _ _ _
+    finish_ready a.algorithm _ _ a.state.drawn a.state.finished a.state.hash _ _ _ _
     asked.finish_words-need.ensures c.finishing-number.ensures c.if-number-ne-DONE.false
 
 pub returns : goal.returns

@@ -9,7 +9,7 @@ pub returns-then-number-ne-DONE : goal.returns-then-number-ne-DONE
 returns-then-number-ne-DONE c =
     let before = c in
     let a = before.args in
-    start_refused a.code a.n a.key.now a.words.now _ _ before.start_words-need.ensures
+    start_refused a.algorithm a.n a.key.now a.words.now _ _ before.start_words-need.ensures
     c.compressing-number.ensures
     c.if-number-ne-DONE.true
     ∙ sym (rw c.zeros.ensures at c.streamed.ensures)
@@ -23,7 +23,7 @@ pub returns : goal.returns
 returns c =
     let before = c in
     let a = before.args in
-    start_done a.code a.n a.key.now a.words.now _ _ before.start_words-need.ensures
+    start_done a.algorithm a.n a.key.now a.words.now _ _ before.start_words-need.ensures
     before.compressing-number.ensures
     c.if-number-ne-DONE.false
     _ _ c.start_at-made.ensures

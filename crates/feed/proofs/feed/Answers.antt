@@ -8,7 +8,7 @@ returns-then-number-ne-DONE c = search feed_refused
 pub feed_at-made-requires : goal.feed_at-made-requires
 feed_at-made-requires c =
     let a = c.args in
-    feed_ready a.code _ _ a.state.drawn a.state.finished a.state.hash _ _ _ _
+    feed_ready a.algorithm _ _ a.state.drawn a.state.finished a.state.hash _ _ _ _
     c.feed_words-need.ensures c.feeding-number.ensures c.if-number-ne-DONE.false
 
 pub returns : goal.returns

@@ -10,8 +10,8 @@ use Rattle.feed.proofs.full_blocks.Given as goal
 
 abbrev pub invariant-loop-j : goal.invariant-loop-j
 invariant-loop-j l =
-    let M = hash l.code in
-    let H = standard l.code in
+    let M = hash l.algorithm in
+    let H = standard l.algorithm in
     let text = l.tail ++ l.piece in
     let m = (length l.tail + length l.piece) / 64 in
     (length l.block ≡ 16 * l.n) × (l.count ≡ m) × (l.p ≡ l.at + l.j * M.draws l.n)

@@ -13,10 +13,10 @@ use Rattle.keys.proofs.hash_key.Given as goal
 
 abbrev pub invariant-loop-j : goal.invariant-loop-j
 invariant-loop-j l =
-    let M = hash l.code in
-    let H = standard l.code in
+    let M = hash l.algorithm in
+    let H = standard l.algorithm in
     let W = padded l.n l.bytes (held l.n l.lasts l.words l.at) in
     let m = blocks_in l.bytes in
     (length l.block ≡ 16 * l.n) × (l.count ≡ m) × (l.q ≡ l.p + l.j * M.draws l.n)
-    × (Left l.code l.n l.words W l.count l.j (used H l.n l.c.shares) l.q
+    × (Left l.algorithm l.n l.words W l.count l.j (used H l.n l.c.shares) l.q
     ≡ blocks M l.n m W (publics l.n H.start) l.words l.p)
