@@ -1,46 +1,54 @@
-// The calls over a hash, by its code: a key split, one compression, a tag in one call and in pieces. Each takes any
-// arguments and says its whole outcome.
+// The calls over a hash: a key split, one compression, a tag in one call and in pieces. Each takes any arguments and says
+// its whole outcome.
 #![tactic(auto)]
 
-ghost use Rattle.std.specs.Prelude.{◌≡◌, length};
+ghost use Rattle.std.specs.Prelude.{◌≡◌, [], ◌∷◌, ◌*◌, eqb, length};
+ghost use Rattle.rules.specs.Numbers.{allowed, test};
+ghost use Rattle.rules.specs.Refusals.{answer_of};
 ghost use Rattle.rules.specs.Hmac.{chain_room};
-ghost use Rattle.rules.specs.Calls.{split_key_call, compress_call, hmac_call};
-ghost use Rattle.rules.specs.Stream.{start_call, feed_call, finish_call};
+ghost use Rattle.rules.specs.Calls.{call, split_key_call, compress_call, hmac_call};
+ghost use Rattle.rules.specs.Stream.{start, streamed, start_call, feed_call, finish_call};
+ghost use Rattle.rules.specs.Outcome.{Whole};
 ghost use Rattle.hash.specs.Hash.{hash, standard};
 
-use counts::{compress_words, finish_words, hmac_words, key_words, start_words};
-use numbers::{DONE, answer};
-use rules::{Answer, Fed, State, Streamed};
-use text_numbers::{compressing, finishing, key_splitting, tagging};
+use counts::{compress_words, feed_words, finish_words, hmac_words, key_words, start_words};
+use numbers::require;
+use rules::{Algorithm, Answer, Refusal, State, Streamed};
+use text_numbers::{compressing, key_splitting, tag_size, tagging};
 
-// A key into shares.
-pub fn split_key(algorithm: Algorithm, n: usize, key: &[u8], shares: &mut [u32], words: &[u32]) -> Answer
-    ensures { split_key_call (hash algorithm) n key.now shares.old words.now
-        ≡ (result, shares.new) }
+// A key into shares. A key that is too long draws nothing, and is refused after an output of another length.
+pub fn split_key(
+    algorithm: Algorithm,
+    n: usize,
+    key: &[u8],
+    shares: &mut [u32],
+    words: &[u32],
+) -> Result<usize, Refusal>
+    ensures { split_key_call (hash algorithm) n key.now shares.old words.now ≡ (answer_of result, shares.new) }
 {
-    let need = key_words(algorithm, n, key.len()).drawn;
-    let number = key_splitting(n, shares.len(), key.len(), need, words.len());
-    if number != DONE {
-        return answer(number, 0);
-    }
-    answer(DONE, keys::split_key(algorithm, n, key, shares, words, 0))
+    let need = key_words(algorithm, n, key.len()).unwrap_or(0);
+    key_splitting(n, shares.len(), key.len(), need, words.len())?;
+    Ok(keys::split_key(algorithm, n, key, shares, words, 0))
 }
 
 // One compression of a block into a chain record, which has the hash's length by its type.
-pub fn compress(algorithm: Algorithm, n: usize, chain: &mut [u32], block: &[u32], words: &[u32]) -> Answer
+pub fn compress(
+    algorithm: Algorithm,
+    n: usize,
+    chain: &mut [u32],
+    block: &[u32],
+    words: &[u32],
+) -> Result<usize, Refusal>
     requires { length chain.old ≡ chain_room (standard algorithm) }
-    ensures { compress_call (hash algorithm) n chain.old block.now words.now
-        ≡ (result, chain.new) }
+    ensures { compress_call (hash algorithm) n chain.old block.now words.now ≡ (answer_of result, chain.new) }
 {
-    let need = compress_words(algorithm, n).drawn;
-    let number = compressing(n, block.len(), need, words.len());
-    if number != DONE {
-        return answer(number, 0);
-    }
-    answer(DONE, hash::compress_record(algorithm, n, chain, block, words, 0))
+    let need = compress_words(algorithm, n)?;
+    compressing(n, block.len(), need, words.len())?;
+    Ok(hash::compress_record(algorithm, n, chain, block, words, 0))
 }
 
-// The tag of a message under a key in shares.
+// The tag of a message under a key in shares. A message that is too long draws nothing, and is refused after a key or a
+// tag of another length.
 pub fn tag(
     algorithm: Algorithm,
     n: usize,
@@ -48,12 +56,11 @@ pub fn tag(
     message: &[u8],
     tag: &mut [u8],
     words: &[u32],
-) -> Answer
-    ensures { hmac_call (hash algorithm) n key.now message.now tag.old
-        words.now ≡ (result, tag.new) }
+) -> Result<usize, Refusal>
+    ensures { hmac_call (hash algorithm) n key.now message.now tag.old words.now ≡ (answer_of result, tag.new) }
 {
-    let need = hmac_words(algorithm, n, message.len()).drawn;
-    let number = tagging(
+    let need = hmac_words(algorithm, n, message.len()).unwrap_or(0);
+    tagging(
         algorithm,
         n,
         key.len(),
@@ -61,74 +68,99 @@ pub fn tag(
         message.len(),
         need,
         words.len(),
-    );
-    if number != DONE {
-        return answer(number, 0);
-    }
-    answer(DONE, hmac::hmac_tag(algorithm, n, key, message, tag, words, 0))
+    )?;
+    Ok(hmac::hmac_tag(algorithm, n, key, message, tag, words, 0))
 }
 
 // ---- streaming
 
 // What a call on a state hands back.
-fn streamed(number: u32, drawn: usize, state: State) -> Streamed
-    ensures { result ≡ record { number = number; drawn = drawn; state = state } }
+fn streamed(outcome: Result<usize, Refusal>, state: State) -> Streamed
+    ensures { result ≡ streamed (answer_of outcome) state }
 {
+    let answer = Answer::from(outcome);
     Streamed {
-        number: number,
-        drawn: drawn,
-        state: state,
+        number: answer.number,
+        drawn: answer.drawn,
+        state,
     }
 }
 
-// The state that a message starts from, under a key in shares.
+// The state that a message starts from, in the place of another.
+fn started(
+    algorithm: Algorithm,
+    state: &mut State,
+    n: usize,
+    key: &[u32],
+    words: &[u32],
+) -> Result<usize, Refusal>
+    ensures { call (test 1 (allowed n) ∷ test 2 (eqb (length key.now) (16 * n)) ∷ []) (start (hash algorithm) n key.now)
+        state.old words.now ≡ (answer_of result, state.new) }
+{
+    let need = start_words(algorithm, n)?;
+    compressing(n, key.len(), need, words.len())?;
+    let made = stream::start_at(algorithm, n, key, words, 0);
+    *state = made.state;
+    Ok(made.at)
+}
+
+// The state that a message starts from, under a key in shares; zeros where it is refused.
 pub fn start(algorithm: Algorithm, n: usize, key: &[u32], words: &[u32]) -> Streamed
     ensures { start_call (hash algorithm) n key.now words.now ≡ result }
 {
-    let need = start_words(algorithm, n).drawn;
-    let number = compressing(n, key.len(), need, words.len());
-    if number != DONE {
-        return streamed(number, 0, states::zeros());
-    }
-    let made = stream::start_at(algorithm, n, key, words, 0);
-    let next = made.state;
-    streamed(DONE, made.at, next)
+    let mut state = states::zeros();
+    let outcome = started(algorithm, &mut state, n, key, words);
+    streamed(outcome, state)
+}
+
+// A piece fed to a state, which a refusal leaves as it was.
+fn fed(
+    algorithm: Algorithm,
+    state: &mut State,
+    piece: &[u8],
+    words: &[u32],
+) -> Result<usize, Refusal>
+    requires { Whole state.old }
+    ensures { feed_call (hash algorithm) state.old piece.now words.now ≡ streamed (answer_of result) state.new }
+{
+    let need = feed_words(algorithm, state, piece.len())?;
+    require(need <= words.len(), Refusal::TooFewWords)?;
+    Ok(feed::feed_at(algorithm, state, piece, words, 0))
 }
 
 // A state with one more piece of the message.
 pub fn feed(algorithm: Algorithm, state: State, piece: &[u8], words: &[u32]) -> Streamed
     ensures { feed_call (hash algorithm) state piece.now words.now ≡ result }
 {
-    let made = feed::feed(algorithm, state, piece, words);
-    let fed = made.fed;
-    let next = made.state;
-    let Fed::Taken(drawn) = fed else {
-        return streamed(feed::refusal(fed), 0, next);
-    };
-    streamed(DONE, drawn, next)
+    let mut next = state;
+    let outcome = fed(algorithm, &mut next, piece, words);
+    streamed(outcome, next)
+}
+
+// The tag of what was fed to a state, which is closed then; a refusal leaves it as it was.
+fn finished(
+    algorithm: Algorithm,
+    state: &mut State,
+    tag: &mut [u8],
+    words: &[u32],
+) -> Result<usize, Refusal>
+    requires { Whole state.old }
+    ensures { finish_call (hash algorithm) state.old tag.old words.now
+        ≡ (streamed (answer_of result) state.new, tag.new) }
+{
+    let need = finish_words(algorithm, state)?;
+    require(tag.len() == tag_size(algorithm), Refusal::WrongOutput)?;
+    require(need <= words.len(), Refusal::TooFewWords)?;
+    let drawn = stream::finish_at(algorithm, state, tag, words, 0);
+    states::close(state);
+    Ok(drawn)
 }
 
 // The tag of what was fed to a state.
 pub fn finish(algorithm: Algorithm, state: State, tag: &mut [u8], words: &[u32]) -> Streamed
     ensures { finish_call (hash algorithm) state tag.old words.now ≡ (result, tag.new) }
 {
-    let need = finish_words(
-        algorithm,
-        state.n,
-        state.bytes,
-        state.drawn,
-        state.finished,
-        state.hash,
-    );
-    let number = finishing(algorithm, need, tag.len(), words.len());
-    if number != DONE {
-        // Written out: beside one call more, `search` no longer gets to the sizes of the state.
-        return Streamed {
-            number: number,
-            drawn: 0,
-            state: state,
-        };
-    }
-    let drawn = stream::finish_at(algorithm, state, tag, words, 0);
-    streamed(DONE, drawn, states::finished(state))
+    let mut last = state;
+    let outcome = finished(algorithm, &mut last, tag, words);
+    streamed(outcome, last)
 }

@@ -9,6 +9,7 @@ use lib.ListN.{get_or-append}
 use lib.Seq.{take_at, take_all, drop-drop, get_or-append-add, get_or-take, get_or-drop, length-take-le}
 use Rattle.words.proofs.Stores.{filled_next, zeros_after}
 use Rattle.rules.specs.declared.Algorithm.{Algorithm}
+use Rattle.rules.specs.Refusals.{code_of}
 use Rattle.rules.specs.declared.Sha256Chain.{Sha256Chain}
 use Rattle.rules.specs.declared.State.{State}
 use Rattle.rules.specs.Numbers.{longest_message}
@@ -139,7 +140,7 @@ pub feed_made : (code : Algorithm) (s : State) (piece ws tail rest : List ℕ) (
       bytes = s.bytes + length piece;
       drawn = state_draws (hash code) s.n (s.bytes + length piece);
       finished = 0;
-      hash = code;
+      hash = code_of code;
       inner = record { shares = filled state_room (used (standard code) s.n inner.shares) };
       outer = record { shares = filled state_room (used (standard code) s.n s.outer.shares) };
       tail = rest;

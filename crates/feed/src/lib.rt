@@ -3,19 +3,16 @@
 
 ghost use Rattle.std.specs.Prelude.{◌≡◌, ◌++◌, ◌+◌, ◌*◌, ◌/◌, ◌≤◌, ◌<◌, length, get_or, take, drop};
 ghost use Rattle.rules.specs.Numbers.{largest, longest_message};
-ghost use Rattle.rules.specs.Refusals.{answer_of};
 ghost use Rattle.rules.specs.Hash.{words_of, filled};
 ghost use Rattle.rules.specs.Sha1.{publics};
 ghost use Rattle.rules.specs.Hmac.{used};
 ghost use Rattle.rules.specs.Counts.{feed_draws};
-ghost use Rattle.rules.specs.Stream.{full_blocks, feed, streamed, feed_call};
+ghost use Rattle.rules.specs.Stream.{full_blocks, feed};
 ghost use Rattle.hash.specs.Hash.{hash, standard};
 ghost use Rattle.padding.specs.Whole.{Hashable};
 
-use counts::feed_words;
 use hash::Stepped;
-use numbers::require;
-use rules::{Algorithm, BLOCK, BLOCK_BYTES, BLOCK_WORDS, Refusal, Sha256Chain, State};
+use rules::{Algorithm, BLOCK, BLOCK_BYTES, BLOCK_WORDS, Sha256Chain, State};
 use states::{state_of, waiting};
 
 // Byte i of the bytes that wait and then the piece.
@@ -112,7 +109,13 @@ fn rest_of(tail: &[u8], piece: &[u8]) -> [u8; BLOCK_BYTES]
 }
 
 // A piece fed to a state, from the word at `at` on; the place after.
-fn feed_at(algorithm: Algorithm, state: &mut State, piece: &[u8], words: &[u32], at: usize) -> usize
+pub fn feed_at(
+    algorithm: Algorithm,
+    state: &mut State,
+    piece: &[u8],
+    words: &[u32],
+    at: usize,
+) -> usize
     requires { (0 < state.old.n) × (state.old.n ≤ largest) × (state.old.bytes + length piece.now ≤ longest_message)
         × (at + feed_draws (hash algorithm) state.old.n state.old.bytes (length piece.now) ≤ length words.now) }
     ensures { (feed (hash algorithm) state.old piece.now words.now at ≡ (state.new, result))
@@ -124,18 +127,4 @@ fn feed_at(algorithm: Algorithm, state: &mut State, piece: &[u8], words: &[u32],
     let bytes = state.bytes + piece.len();
     *state = state_of(algorithm, state.n, bytes, made.chain, state.outer, rest);
     made.at
-}
-
-// A piece of any length fed to any state, with any words lent. A refusal leaves the state as it was.
-pub fn feed(
-    algorithm: Algorithm,
-    state: &mut State,
-    piece: &[u8],
-    words: &[u32],
-) -> Result<usize, Refusal>
-    ensures { feed_call (hash algorithm) state.old piece.now words.now ≡ streamed (answer_of result) state.new }
-{
-    let need = feed_words(algorithm, state, piece.len())?;
-    require(need <= words.len(), Refusal::TooFewWords)?;
-    Ok(feed_at(algorithm, state, piece, words, 0))
 }

@@ -97,15 +97,13 @@ passed_on : {A : Type 0} {refusal : Refusal} (made : Result A Refusal) → IsErr
 passed_on {A = A} {refusal = refusal} (Ok _) h = elim h [ ]
 passed_on (Err r) h = ap Err h
 
--- refused by its query, which makes the first of its tests
-pub refused_asked : {S : Type 0} (ts us : List Test) (rule : Draw S) (came : S) (ws : List ℕ) (d : ℕ)
-    (refusal : Refusal) (made : Result ℕ Refusal)
-    → query ts d ≡ record { number = number_of refusal; drawn = 0 } → IsErrAnd made (λ r. r ≡ refusal)
+-- refused by the first of its tests
+pub refused_early : {S : Type 0} (ts us : List Test) (rule : Draw S) (came : S) (ws : List ℕ) (refusal : Refusal)
+    (made : Result ℕ Refusal) → first ts ≡ number_of refusal → IsErrAnd made (λ r. r ≡ refusal)
     → call (ts ++ us) rule came ws ≡ (answer_of made, came)
 unfolding call first
-refused_asked ts us rule came ws d refusal made e is =
-    let first_is : first ts ≡ number_of refusal = ap (λ (a : Answer). a.number) e in
-    let all = stays ts us (test 5 (leb (rule ws 0).1 (length ws)) ∷ []) refusal first_is in
+refused_early ts us rule came ws refusal made e is =
+    let all = stays ts us (test 5 (leb (rule ws 0).1 (length ws)) ∷ []) refusal e in
     let h = not_done refusal in
     rw (all, settled_refused (number_of refusal) (rule ws 0).1 0 h,
     settled_refused (number_of refusal) (rule ws 0).0 came h, passed_on made is)
@@ -115,6 +113,14 @@ refused_asked ts us rule came ws d refusal made e is =
     stays [] us vs refusal h = absurd (not_done refusal (sym h))
     stays (zero ∷ ts) us vs refusal h = stays ts us vs refusal h
     stays (suc t ∷ ts) us vs refusal h = h
+
+-- which its query makes
+pub refused_asked : {S : Type 0} (ts us : List Test) (rule : Draw S) (came : S) (ws : List ℕ) (d : ℕ)
+    (refusal : Refusal) (made : Result ℕ Refusal)
+    → query ts d ≡ record { number = number_of refusal; drawn = 0 } → IsErrAnd made (λ r. r ≡ refusal)
+    → call (ts ++ us) rule came ws ≡ (answer_of made, came)
+refused_asked ts us rule came ws d refusal made e =
+    refused_early ts us rule came ws refusal made (ap (λ (a : Answer). a.number) e)
 
 -- refused by its own tests, of which the last is by what the rule draws; or done
 module _ {S : Type 0} (tests : List Test) (rule : Draw S) (came : S) (ws : List ℕ) (need number : ℕ)

@@ -23,7 +23,7 @@ use Rattle.rules.specs.Stream.{state_room, in_use, waiting, fit, is_fit, state_o
 use Rattle.rules.specs.Stream.{start_words}
 use Rattle.rules.specs.Stream.{feed_words, finish_words}
 use Rattle.rules.specs.Stream.{streamed, start_call, feed_call, finish_call, closed}
-use Rattle.rules.specs.Calls.{query}
+use Rattle.rules.specs.Calls.{query, call}
 use Rattle.rules.specs.Outcome.{Whole}
 use Rattle.rules.proofs.Rule.{said, alike}
 use Rattle.rules.proofs.Allowed.{within}
@@ -35,7 +35,10 @@ use Rattle.rules.proofs.Sizes.{Sized, words_size, hash_size, chain_fits}
 use Rattle.rules.proofs.Tags.{hash_proper}
 use Rattle.rules.proofs.Streaming.{start_rule, feed_reads, finish_reads, fed_rule, finished_rule, rest_size}
 use Rattle.rules.proofs.Streaming.{made_whole}
-use Rattle.rules.proofs.Calls.{passed, holds, one_more, tells, settled_refused, refused, done}
+use Rattle.std.specs.Prelude.{Result, Ok, Err, IsErrAnd}
+use Rattle.rules.specs.declared.Refusal.{Refusal}
+use Rattle.rules.specs.Refusals.{number_of, answer_of}
+use Rattle.rules.proofs.Calls.{not_done, passed, holds, one_more, tells, settled_refused, refused, done}
 use Rattle.rules.proofs.Tested.{needs, taken, fits}
 
 module _ (M : Masked) (s : State) (some : 0 < s.n) (keeps : Keeps M s.n (λ v. Unit {0}) (Sized s.n))
@@ -157,3 +160,27 @@ module _ (code : ℕ) where
         needs (finish_draws M s.n s.bytes) asked need _ ws e (fit_taken fit)
         (finish_sized M s some (hash_size 32 (lit< tt) code s.n some) refl
         (chain_fits 32 code s.n count.1) whole (hash_proper 32 code))
+
+-- ---- the calls' outcomes, from those of their tests and rules
+pub fed : (M : Masked) (s : State) (piece ws : List ℕ) {o : Answer × State}
+    → call (test 6 (is_fit M s) ∷ test 4 (leb (s.bytes + length piece) longest_message) ∷ []) (feed M s piece) s ws ≡ o
+    → feed_call M s piece ws ≡ streamed o.0 o.1
+unfolding feed_call
+fed M s piece ws e = ap (λ (o : Answer × State). streamed o.0 o.1) e
+
+pub finished : (M : Masked) (s : State) (came ws : List ℕ) {o : Answer × List ℕ}
+    → call (test 6 (is_fit M s) ∷ test 3 (eqb (length came) (digest_bytes M.standard)) ∷ []) (finish M s) came ws ≡ o
+    → finish_call M s came ws ≡ (streamed o.0 (settled o.0.number (closed s) s), o.1)
+unfolding finish_call
+finished M s came ws e = ap (λ (o : Answer × List ℕ). (streamed o.0 (settled o.0.number (closed s) s), o.1)) e
+
+-- a refused finish leaves the state
+pub finish_refused : (M : Masked) (s : State) (came ws : List ℕ) (refusal : Refusal) (made : Result ℕ Refusal)
+    → IsErrAnd made (λ r. r ≡ refusal)
+    → call (test 6 (is_fit M s) ∷ test 3 (eqb (length came) (digest_bytes M.standard)) ∷ []) (finish M s) came ws
+    ≡ (answer_of made, came)
+    → finish_call M s came ws ≡ (streamed (answer_of made) s, came)
+finish_refused M s came ws refusal (Ok drawn) h e = elim h [ ]
+finish_refused M s came ws refusal (Err r) h e =
+    finished M s came ws e
+    ∙ ap (λ (t : State). (streamed (answer_of (Err r)) t, came)) (settled_refused (number_of r) (closed s) s (not_done r))

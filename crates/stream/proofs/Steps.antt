@@ -31,7 +31,7 @@ pub start_made : (code : Algorithm) (n : ℕ) (key ws : List ℕ) (at p q : ℕ)
       bytes = 0;
       drawn = state_draws M n 0;
       finished = 0;
-      hash = code;
+      hash = code_of code;
       inner = record { shares = filled state_room (used H n i.shares) };
       outer = record { shares = filled state_room (used H n o.shares) };
       tail = replicate 64 0;

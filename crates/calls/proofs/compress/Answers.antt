@@ -1,17 +1,25 @@
--- refused, with the record as it came; or the rule
-use borrow.Author.Rules.{rules}
-use Rattle.rules.proofs.Calls.{refused, done}
+-- refused by its query or its tests, with the record as it came; or the rule
+use Rattle.std.proofs.Common.{refl, rules, [], ◌∷◌}
+use Rattle.rules.proofs.Calls.{refused_asked, refused, done}
 use Rattle.rules.proofs.Tested.{block_ready, compress_needs}
 use Rattle.calls.proofs.compress.Goals as goal
 
-pub returns-then-number-ne-DONE : goal.returns-then-number-ne-DONE
-returns-then-number-ne-DONE c = search (refused, compress_needs)
+pub returns-in_err-need : goal.returns-in_err-need
+returns-in_err-need c = refused_asked (_ ∷ []) _ _ _ _ _ _ _ c.in_err-need.ensures c.from_residual.ensures.1
+
+pub returns-in_err-compressing : goal.returns-in_err-compressing
+returns-in_err-compressing c =
+    let asked = c.in_ok-need.ensures in
+    refused _ _ _ _ _ _ c.in_err-compressing.ensures (λ h. search compress_needs) _ _ refl
+    c.from_residual-in_err-compressing.ensures.1
 
 pub compress_record-requires : goal.compress_record-requires
 compress_record-requires c =
-    let told = c.compress_words-need.ensures in
-    let p = block_ready told c.compressing-number.ensures c.if-number-ne-DONE.false in
+    let p = block_ready c.in_ok-need.ensures c.in_ok-compressing.ensures refl in
     search rules
 
 pub returns : goal.returns
-returns c = search (done, compress_needs)
+returns c =
+    let asked = c.in_ok-need.ensures in
+    let is = c.in_ok-compressing.ensures in
+    search (done, compress_needs)

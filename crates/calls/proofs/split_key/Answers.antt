@@ -1,18 +1,23 @@
--- refused, with what that leaves; or the rule
-use borrow.Author.Rules.{rules}
+-- refused by its tests, with what that leaves; or the rule
+use Rattle.std.proofs.Common.{refl, rules}
 use borrow.Author.Tests.{leb-true}
-use Rattle.rules.proofs.Calls.{refused, done}
+use Rattle.rules.proofs.Calls.{answered, refused, done}
 use Rattle.rules.proofs.Tested.{key_ready, split_key_needs}
 use Rattle.calls.proofs.split_key.Goals as goal
 
-pub returns-then-number-ne-DONE : goal.returns-then-number-ne-DONE
-returns-then-number-ne-DONE c = search (refused, split_key_needs)
+pub returns-in_err-key_splitting : goal.returns-in_err-key_splitting
+returns-in_err-key_splitting c =
+    let asked = answered _ _ _ _ c.key_words.ensures c.unwrap_or-need.ensures in
+    refused _ _ _ _ _ _ c.in_err-key_splitting.ensures (λ h. search split_key_needs) _ _ refl c.from_residual.ensures.1
 
 pub split_key-requires : goal.split_key-requires
 split_key-requires c =
-    let told = c.key_words-need.ensures in
-    let p = key_ready told c.key_splitting-number.ensures c.if-number-ne-DONE.false in
+    let asked = answered _ _ _ _ c.key_words.ensures c.unwrap_or-need.ensures in
+    let p = key_ready asked c.in_ok-key_splitting.ensures refl in
     search (leb-true, rules)
 
 pub returns : goal.returns
-returns c = search (done, split_key_needs)
+returns c =
+    let asked = answered _ _ _ _ c.key_words.ensures c.unwrap_or-need.ensures in
+    let is = c.in_ok-key_splitting.ensures in
+    search (done, split_key_needs)
