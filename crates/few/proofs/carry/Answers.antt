@@ -1,14 +1,11 @@
 use borrow.Author.Rules.{rules}
 use native.Mathlib.Omega.{arith}
-use Rattle.rules.proofs.Loops.{parts_room, parts_end, carries_next, carries_end}
+use Rattle.rules.proofs.Loops.{parts_end, carries_next, carries_end}
 use Rattle.few.proofs.Laws.{firsts_zeros}
 use Rattle.few.proofs.carry.Goals as goal
 
 pub loop-init : goal.loop-init
 loop-init c = (search rules, rw (firsts_zeros c.args.n (omega arith)))
-
-pub carry_round-u-requires : goal.carry_round-u-requires
-carry_round-u-requires c = (search rules, search (rules, parts_room))
 
 pub loop-preserved : goal.loop-preserved
 loop-preserved c = (search rules, search (rules, carries_next))
