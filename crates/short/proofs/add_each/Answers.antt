@@ -1,11 +1,7 @@
 use borrow.Author.Rules.{rules}
-use mathlib.Core.Path.{refl}
 use Rattle.words.specs.Word.{plus}
 use Rattle.rules.proofs.Loops.{into_next, into_end}
 use Rattle.short.proofs.add_each.Goals as goal
-
-pub loop-i-init : goal.loop-i-init
-loop-i-init c = (search rules, search rules, refl)
 
 pub loop-i-preserved : goal.loop-i-preserved
 unfolding plus
