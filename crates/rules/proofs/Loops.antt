@@ -179,14 +179,6 @@ pub add_made : (k n : ℕ) (ws x y w a u₀ u z : List ℕ) (at p q : ℕ) → l
 unfolding add
 add_made k n ws x y w a u₀ u z at p q l e f g h i = rw (e, ← f, l, ← g, h, i)
 
--- the sum of a copy
-module _ (k at : ℕ) (x z : List ℕ) (copied : z ≡ x) where
-  pub copied_sum : (y ws : List ℕ) (o : Run) → add k z y ws at ≡ o → add k x y ws at ≡ o
-  copied_sum y ws o h = rw copied at h
-
-  pub copied_place : (p : ℕ) → p ≡ at + add_draws k (length z) → p ≡ at + add_draws k (length x)
-  copied_place p h = rw copied at h
-
 -- ---- by shares, n of them: up to place i, z has the rule's shares
 module _ (f : ℕ → ℕ → ℕ) (n : ℕ) (x y z : List ℕ) (i : ℕ)
     (left : length x ≡ n) (right : length y ≡ n) (room : length z ≡ n) where

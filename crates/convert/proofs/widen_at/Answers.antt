@@ -1,6 +1,5 @@
 -- expanded; or put in front of zeros, and refreshed
-use Rattle.convert.proofs.Parts.{expand_place, refresh_place}
-use Rattle.convert.proofs.Parts.{widen_expanded, widen_filled}
+use Rattle.convert.proofs.Parts.{expand_place, refresh_place, widen_expanded, widen_filled}
 use Rattle.convert.proofs.widen_at.Goals as goal
 
 pub returns-then-is_power_of_two : goal.returns-then-is_power_of_two

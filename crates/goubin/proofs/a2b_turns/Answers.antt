@@ -8,7 +8,9 @@ use Rattle.goubin.proofs.Records.{turn_stored, last_stored}
 use Rattle.goubin.proofs.a2b_turns.Goals as goal
 
 pub loop-i-preserved : goal.loop-i-preserved
-loop-i-preserved c = let room : length c.loop-i.entries ≡ 5 * bits + 5 = omega arith in search turn_stored
+loop-i-preserved c =
+    let room : length c.loop-i.entries ≡ 5 * bits + 5 = omega arith in
+    search turn_stored
 
 pub returns : goal.returns
 returns c = search (rules, last_stored bits)
