@@ -12,7 +12,7 @@ ghost use Rattle.rules.specs.Counts.{refresh_draws};
 ghost use Rattle.width.specs.Width.{bits};
 
 use supply::draw_at;
-use veil::after;
+use veil::places;
 use width::{Word, plus};
 
 // y becomes x.
@@ -20,10 +20,8 @@ pub fn copy(x: &[Word], y: &mut [Word])
     requires { length y.old ≡ length x.now }
     ensures { y.new ≡ x.now }
 {
-    let mut i = 0;
-    while i < x.len() {
+    for i in places(x.len()) {
         y[i] = x[i];
-        i = after(i);
     }
 }
 
@@ -32,10 +30,8 @@ pub fn put(x: &[Word], z: &mut [Word], at: usize)
     requires { at + length x.now ≤ length z.old }
     ensures { z.new ≡ sets z.old at x.now }
 {
-    let mut i = 0;
-    while i < x.len() {
+    for i in places(x.len()) {
         z[at + i] = x[i];
-        i = after(i);
     }
 }
 

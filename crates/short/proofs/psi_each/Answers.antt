@@ -3,4 +3,4 @@ use Rattle.rules.proofs.Loops.{mapped_next}
 use Rattle.short.proofs.psi_each.Goals as goal
 
 pub loop-i-preserved : goal.loop-i-preserved
-loop-i-preserved c = (search rules, search rules, search mapped_next)
+loop-i-preserved c = (search rules, search (rules, mapped_next))
