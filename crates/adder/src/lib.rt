@@ -24,10 +24,8 @@ fn and_each(n: usize, x: &[Word], y: &[Word], z: &mut [Word])
     requires { (length x.now ≡ n) × (length y.now ≡ n) × (length z.old ≡ n) }
     ensures { z.new ≡ each bit_and x.now y.now }
 {
-    let mut i = 0;
-    while i < n {
+    for i in 0..n {
         z[i] = x[i] & y[i];
-        i += 1;
     }
 }
 
@@ -36,10 +34,8 @@ fn double_xor_each(n: usize, x: &[Word], y: &[Word], z: &mut [Word])
     requires { (length x.now ≡ n) × (length y.now ≡ n) × (length z.old ≡ n) }
     ensures { z.new ≡ each (double_xor bits) x.now y.now }
 {
-    let mut i = 0;
-    while i < n {
+    for i in 0..n {
         z[i] = (x[i] ^ y[i]) << 1;
-        i += 1;
     }
 }
 
@@ -69,12 +65,10 @@ fn and_row(
         words.now at ≡ (z.new, result)) × (result ≡ at + (n - (i + 1))) }
 {
     let mut p = at;
-    let mut j = i + 1;
-    while j < n {
+    for j in i + 1..n {
         let s = draw_at(words, p);
         cross_at(i, j, s.word, x, y, z, words);
         p = s.at;
-        j += 1;
     }
     p
 }
@@ -88,10 +82,8 @@ fn and_of(n: usize, x: &[Word], y: &[Word], z: &mut [Word], words: &[Word], at: 
 {
     and_each(n, x, y, z);
     let mut p = at;
-    let mut i = 0;
-    while i < n {
+    for i in 0..n {
         p = and_row(n, i, x, y, z, words, p);
-        i += 1;
     }
     p
 }
@@ -128,10 +120,8 @@ fn carry_at(n: usize, a: &[Word], w: &[Word], u: &mut [Word], words: &[Word], at
         ≡ (u.new, result)) × (result ≡ at + (bits - 1) * and_draws n) }
 {
     let mut p = at;
-    let mut i: usize = 0;
-    while i < TURNS {
+    for _ in 0..TURNS {
         p = carry_round(n, a, w, u, words, p);
-        i += 1;
     }
     p
 }

@@ -36,21 +36,12 @@ halved_count n room more =
 
 -- ---- a half of m shares brought to n
 module _ (n m at : ℕ) (b : Bool) (is : b ≡ power_of_two n) where
-  pub expand_size : (size half : ℕ) → Half n m → b ≡ true → size ≡ n → half ≡ m → size ≡ half * 2
-  expand_size size half parts e l k = l ∙ sym (rw k (parts.even (sym is ∙ e)))
-
-  pub expand_room : (have half : ℕ) → b ≡ true → half ≡ m → at + widen_draws n m ≤ have → at + half ≤ have
-  expand_room have half e k h = rw k (rw (sym is ∙ e) at h)
-
   pub expand_place : (p half : ℕ) → b ≡ true → half ≡ m → p ≡ at + half → p ≡ at + widen_draws n m
   expand_place p half e k h = h ∙ rw (sym is ∙ e, k)
 
-  module _ (came y half : List ℕ) (i : ℕ) (e : b ≡ false) (l : length came ≡ n) (put : y ≡ sets came i half) where
-    pub refresh_room : (have : ℕ) → at + widen_draws n m ≤ have → at + (length y - 1) ≤ have
-    refresh_room have h = rw (put, length-sets came i half, l) (rw (sym is ∙ e) at h)
-
-    pub refresh_place : (p : ℕ) → p ≡ at + (length y - 1) → p ≡ at + widen_draws n m
-    refresh_place p h = h ∙ rw (sym is ∙ e, put, length-sets came i half, l)
+  pub refresh_place : (came y half : List ℕ) (i p : ℕ) → b ≡ false → length came ≡ n → y ≡ sets came i half
+      → p ≡ at + (length y - 1) → p ≡ at + widen_draws n m
+  refresh_place came y half i p e l put h = h ∙ rw (sym is ∙ e, put, length-sets came i half, l)
 
 filled_zeros : (n : ℕ) (half : List ℕ) → length half ≤ n
     → sets (replicate n 0) 0 half ≡ half ++ replicate (n - length half) 0
@@ -74,12 +65,9 @@ module _ (n : ℕ) (half x ws : List ℕ) (at p : ℕ) (b : Bool) (is : b ≡ po
       rw (sym is ∙ e, ← put ∙ ap (λ c. sets c 0 half) zeros ∙ filled_zeros n half (omega arith)) f
 
 -- ---- arithmetic to Boolean
-module _ (n m at p : ℕ) (drew : p ≡ at + to_bool_draws (add_draws bits) m) where
-  pub widened_room : (have : ℕ) → at + widened_draws n m ≤ have → p + widen_draws n m ≤ have
-  widened_room have h = omega arith
-
-  pub widened_place : (q : ℕ) → q ≡ p + widen_draws n m → q ≡ at + widened_draws n m
-  widened_place q h = omega arith
+pub widened_place : (n m at p q : ℕ) → p ≡ at + to_bool_draws (add_draws bits) m → q ≡ p + widen_draws n m
+    → q ≡ at + widened_draws n m
+widened_place n m at p q drew h = omega arith
 
 module _ (adder : Adder) (ws : List ℕ) (at : ℕ) where
   pub widened_made : (n : ℕ) (half b x : List ℕ) (p q : ℕ) → to_bool adder half ws at ≡ (b, p) → widen n b ws p ≡ (x, q)
@@ -108,10 +96,6 @@ pub one_place : (n at : ℕ) → n ≤ 1 → at ≡ at + to_bool_draws (add_draw
 one_place n at h = omega (arith, draws_one (add_draws bits) n h)
 
 -- ---- Boolean to arithmetic
-pub negative_made : (k : ℕ) (adder : Adder) (ws A m b : List ℕ) (at p : ℕ) → m ≡ negatives k A
-    → to_bool adder m ws at ≡ (b, p) → to_bool adder (negatives k A) ws at ≡ (b, p)
-negative_made k adder ws A m b at p e f = rw (← e) f
-
 module _ (k : ℕ) (adder : Adder) (fresh : Refresh) (ws : List ℕ) (at p q : ℕ) where
   pub less_made : (A x b s y : List ℕ) (e : ℕ) → to_bool adder (negatives k A) ws at ≡ (b, p)
       → adder x b ws p ≡ (s, q) → fresh s ws q ≡ (y, e) → less k adder fresh A x ws at ≡ (y, e)

@@ -4,13 +4,15 @@ use mathlib.Core.Path.{◌≡◌, refl, sym, ap, ◌∙◌}
 use mathlib.Core.List.{List, [], ◌∷◌}
 use native.Mathlib.Omega.{arith}
 use lib.Bits.{bit_xor, bit_and}
-use lib.ListN.{length, get_or, set, take, replicate}
+use lib.ListN.{length, get_or, set, replicate}
 use lib.Seq.{length-take-le}
+use Rattle.std.proofs.lemmas.List.{take-replicate}
 use Rattle.words.specs.Word.{double}
 use Rattle.words.proofs.Words.{xor_swap, shift_xor}
 use Rattle.rules.specs.Shares.{each, pass, along, order, cross, and, double_xor, carries, add}
 use Rattle.rules.specs.Counts.{and_draws, add_draws}
 use Rattle.width.specs.Width.{bits}
+use Rattle.rules.proofs.Openings.{each_take}
 use Rattle.rules.proofs.Loops.{order_begins, order_next, carries_one, add_made}
 use Rattle.few.specs.declared.Few.{Few}
 use Rattle.few.specs.declared.Pair.{Pair}
@@ -21,13 +23,6 @@ pub length_firsts : (n : ℕ) (x : Few) → n ≤ 4 → length (firsts n x) ≡ 
 unfolding firsts
 length_firsts n x h = length-take-le n (x.s0 ∷ x.s1 ∷ x.s2 ∷ x.s3 ∷ []) h
 
-take_each : (f : ℕ → ℕ → ℕ) (n : ℕ) (a b : List ℕ) → take n (each f a b) ≡ each f (take n a) (take n b)
-unfolding each
-take_each f zero a b = refl
-take_each f (suc n) [] b = refl
-take_each f (suc n) (x ∷ a) [] = refl
-take_each f (suc n) (x ∷ a) (y ∷ b) = ap (λ (l : List ℕ). f x y ∷ l) (take_each f n a b)
-
 pub firsts_each : (f : ℕ → ℕ → ℕ) (x y : Few) (n : ℕ)
     → firsts n (record {
       s0 = f x.s0 y.s0;
@@ -37,16 +32,11 @@ pub firsts_each : (f : ℕ → ℕ → ℕ) (x y : Few) (n : ℕ)
     }) ≡ each f (firsts n x) (firsts n y)
 unfolding firsts each
 firsts_each f x y n =
-    take_each f n (x.s0 ∷ x.s1 ∷ x.s2 ∷ x.s3 ∷ []) (y.s0 ∷ y.s1 ∷ y.s2 ∷ y.s3 ∷ [])
+    each_take f n (x.s0 ∷ x.s1 ∷ x.s2 ∷ x.s3 ∷ []) (y.s0 ∷ y.s1 ∷ y.s2 ∷ y.s3 ∷ [])
 
 pub firsts_zeros : (n : ℕ) → n ≤ 4 → firsts n (record { s0 = 0; s1 = 0; s2 = 0; s3 = 0 }) ≡ replicate n 0
 unfolding firsts
-firsts_zeros zero h = refl
-firsts_zeros (suc zero) h = refl
-firsts_zeros (suc (suc zero)) h = refl
-firsts_zeros (suc (suc (suc zero))) h = refl
-firsts_zeros (suc (suc (suc (suc zero)))) h = refl
-firsts_zeros (suc (suc (suc (suc (suc n))))) h = absurd (omega arith)
+firsts_zeros n h = take-replicate n 4 0 h
 
 -- ---- a list of so many, word by word, and back
 pub loaded_one : (x : List ℕ) → length x ≡ 1 → firsts (length x) (record { s0 = get_or x 0 0; s1 = 0; s2 = 0; s3 = 0 })
@@ -99,9 +89,10 @@ stored_more (a ∷ b ∷ c ∷ d ∷ e ∷ z) x few one two = absurd (omega arit
 
 -- ---- the AND: the pairs of share 0, then those of shares 1 to 3
 module _ (x y : Few) (ws : List ℕ) (at : ℕ) where
-  pub row_of_one : first_row 1 x y ws at ≡ (firsts 1 (record { s0 = bit_and x.s0 y.s0; s1 = 0; s2 = 0; s3 = 0 }), at)
+  pub row_of_one : (n : ℕ) → n ≡ 1
+      → first_row n x y ws at ≡ (firsts n (record { s0 = bit_and x.s0 y.s0; s1 = 0; s2 = 0; s3 = 0 }), at)
   unfolding first_row firsts each pass along
-  row_of_one = refl
+  row_of_one n e = rw e
 
   pub row_of_two : (p : Pair)
       → Crosses ws at (bit_and x.s0 y.s0) (bit_and x.s1 y.s1) x.s0 y.s0 x.s1 y.s1 p
@@ -116,15 +107,6 @@ module _ (x y : Few) (ws : List ℕ) (at : ℕ) where
       → first_row 4 x y ws at ≡ (firsts 4 (record { s0 = r.i; s1 = p.j; s2 = q.j; s3 = r.j }), r.at)
   unfolding first_row firsts each pass along
   row_of_four p q r g h l = rw (l.0, l.1, l.2, h.0, h.1, h.2, g.0, g.1, g.2)
-
-  -- n is such a count
-  pub row_of : (n m : ℕ) (z : Few) (p : ℕ) → n ≡ m → first_row m x y ws at ≡ (firsts m z, p)
-      → first_row n x y ws at ≡ (firsts n z, p)
-  row_of n m z p e h = rw e h
-
-  pub row_of_more : (n : ℕ) (z : Few) (p : ℕ) → IsFew n → (n ≡ 1 → ⊥) → (n ≡ 2 → ⊥)
-      → first_row 4 x y ws at ≡ (firsts 4 z, p) → first_row n x y ws at ≡ (firsts n z, p)
-  row_of_more n z p few one two h = row_of n 4 z p (omega arith) h
 
 module _ (n : ℕ) (x y z : Few) (ws : List ℕ) (at : ℕ) where
   -- fewer than three shares have none

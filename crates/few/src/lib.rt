@@ -310,10 +310,8 @@ fn carry(n: usize, a: Few, w: Run, words: &[Word]) -> Run
         },
         at: w.at,
     };
-    let mut i: usize = 0;
-    while i < TURNS {
+    for _ in 0..TURNS {
         u = carry_round(n, a, t, u, words);
-        i += 1;
     }
     u
 }

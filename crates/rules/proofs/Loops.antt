@@ -53,13 +53,11 @@ module _ (step : Step) (ws z y : List ℕ) (at q s : ℕ) (e : Run) where
 abbrev pub RowFrom : Step → ℕ → ℕ → List ℕ → List ℕ → ℕ → List ℕ → ℕ → ℕ → Type 0
 RowFrom step n i z₀ ws at z p j =
     let row = n - (i + 1) in
-    (j ≤ n) × (length z ≡ n) × (p + (n - j) ≡ at + row)
-    × (pass step (along (n - j) i j) z ws p ≡ pass step (along row i (i + 1)) z₀ ws at)
+    (p + (n - j) ≡ at + row) × (pass step (along (n - j) i j) z ws p ≡ pass step (along row i (i + 1)) z₀ ws at)
 
 abbrev pub OrderFrom : Step → ℕ → Run → List ℕ → ℕ → List ℕ → ℕ → ℕ → Type 0
 OrderFrom step n whole ws at z p i =
-    (i ≤ n) × (length z ≡ n) × (p + and_draws (n - i) ≡ at + and_draws n)
-    × (pass step (order (n - i) i) z ws p ≡ whole)
+    (p + and_draws (n - i) ≡ at + and_draws n) × (pass step (order (n - i) i) z ws p ≡ whole)
 
 -- all pairs of n shares in order, from the diagonal on
 pub order_begins : (n : ℕ) (x y z ws : List ℕ) (at : ℕ) → length x ≡ n → z ≡ each bit_and x y
@@ -181,18 +179,7 @@ pub add_made : (k n : ℕ) (ws x y w a u₀ u z : List ℕ) (at p q : ℕ) → l
 unfolding add
 add_made k n ws x y w a u₀ u z at p q l e f g h i = rw (e, ← f, l, ← g, h, i)
 
--- the sum of a copy
-module _ (k at : ℕ) (x z : List ℕ) (copied : z ≡ x) where
-  pub copied_sum : (y ws : List ℕ) (o : Run) → add k z y ws at ≡ o → add k x y ws at ≡ o
-  copied_sum y ws o h = rw copied at h
-
-  pub copied_place : (p : ℕ) → p ≡ at + add_draws k (length z) → p ≡ at + add_draws k (length x)
-  copied_place p h = rw copied at h
-
 -- ---- by shares, n of them: up to place i, z has the rule's shares
-abbrev pub EachTo : (ℕ → ℕ → ℕ) → ℕ → List ℕ → List ℕ → List ℕ → ℕ → Type 0
-EachTo f n x y z i = (i ≤ n) × (length z ≡ n) × (take i z ≡ take i (each f x y))
-
 module _ (f : ℕ → ℕ → ℕ) (n : ℕ) (x y z : List ℕ) (i : ℕ)
     (left : length x ≡ n) (right : length y ≡ n) (room : length z ≡ n) where
   rule_size : length z ≡ length (each f x y)

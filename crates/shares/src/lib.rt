@@ -12,7 +12,7 @@ ghost use Rattle.rules.specs.Counts.{refresh_draws};
 ghost use Rattle.width.specs.Width.{bits};
 
 use supply::draw_at;
-use veil::after;
+use veil::places;
 use width::{Word, plus};
 
 // y becomes x.
@@ -20,10 +20,8 @@ pub fn copy(x: &[Word], y: &mut [Word])
     requires { length y.old ≡ length x.now }
     ensures { y.new ≡ x.now }
 {
-    let mut i = 0;
-    while i < x.len() {
+    for i in places(x.len()) {
         y[i] = x[i];
-        i = after(i);
     }
 }
 
@@ -32,10 +30,8 @@ pub fn put(x: &[Word], z: &mut [Word], at: usize)
     requires { at + length x.now ≤ length z.old }
     ensures { z.new ≡ sets z.old at x.now }
 {
-    let mut i = 0;
-    while i < x.len() {
+    for i in places(x.len()) {
         z[at + i] = x[i];
-        i = after(i);
     }
 }
 
@@ -44,10 +40,8 @@ pub fn xor_each(x: &[Word], y: &[Word], z: &mut [Word])
     requires { (length y.now ≡ length x.now) × (length z.old ≡ length x.now) }
     ensures { z.new ≡ each bit_xor x.now y.now }
 {
-    let mut i = 0;
-    while i < x.len() {
+    for i in 0..x.len() {
         z[i] = x[i] ^ y[i];
-        i += 1;
     }
 }
 
@@ -55,26 +49,14 @@ pub fn xor_each(x: &[Word], y: &[Word], z: &mut [Word])
 pub fn open_xor(x: &[Word]) -> Word
     ensures { result ≡ opened x.now }
 {
-    let mut r: Word = 0;
-    let mut i = x.len();
-    while 0 < i {
-        i -= 1;
-        r = x[i] ^ r;
-    }
-    r
+    x.iter().rev().fold(0, |r, share| share ^ r)
 }
 
 // The sum of all shares modulo 2^bits.
 pub fn open_sum(a: &[Word]) -> Word
     ensures { result ≡ opened_sum bits a.now }
 {
-    let mut r: Word = 0;
-    let mut i = a.len();
-    while 0 < i {
-        i -= 1;
-        r = plus(a[i], r);
-    }
-    r
+    a.iter().rev().fold(0, |r, share| plus(*share, r))
 }
 
 // One draw of the refresh: the word goes into shares i and j.
@@ -94,12 +76,10 @@ pub fn refresh_last(y: &mut [Word], words: &[Word], at: usize) -> usize
 {
     let last = y.len() - 1;
     let mut p = at;
-    let mut i = 0;
-    while i < last {
+    for i in 0..last {
         let s = draw_at(words, p);
         mix_at(i, last, s.word, y);
         p = s.at;
-        i += 1;
     }
     p
 }
@@ -111,12 +91,10 @@ fn refresh_row(n: usize, i: usize, y: &mut [Word], words: &[Word], at: usize) ->
         ≡ (y.new, result)) × (result ≡ at + (n - (i + 1))) }
 {
     let mut p = at;
-    let mut j = i + 1;
-    while j < n {
+    for j in i + 1..n {
         let s = draw_at(words, p);
         mix_at(i, j, s.word, y);
         p = s.at;
-        j += 1;
     }
     p
 }
@@ -128,10 +106,8 @@ pub fn refresh_at(n: usize, y: &mut [Word], words: &[Word], at: usize) -> usize
         × (result ≡ at + refresh_draws n) }
 {
     let mut p = at;
-    let mut i = 0;
-    while i < n {
+    for i in 0..n {
         p = refresh_row(n, i, y, words, p);
-        i += 1;
     }
     p
 }
@@ -144,13 +120,11 @@ pub fn expand_at(x: &[Word], y: &mut [Word], words: &[Word], at: usize) -> usize
         × (result ≡ at + length x.now) }
 {
     let mut p = at;
-    let mut i = 0;
-    while i < x.len() {
+    for i in 0..x.len() {
         let s = draw_at(words, p);
         y[i * 2] = x[i] ^ s.word;
         y[i * 2 + 1] = s.word;
         p = s.at;
-        i += 1;
     }
     p
 }
@@ -162,12 +136,10 @@ pub fn draw_each(z: &mut [Word], words: &[Word], at: usize) -> usize
         × (result ≡ at + length z.old) }
 {
     let mut p = at;
-    let mut i = 0;
-    while i < z.len() {
+    for i in 0..z.len() {
         let s = draw_at(words, p);
         z[i] = s.word;
         p = s.at;
-        i += 1;
     }
     p
 }

@@ -10,7 +10,6 @@ use lib.ListN.{length, get_or, set, take, drop, length-append, length-drop, leng
 use lib.Seq.{take_all, length-take-le, take-append-le, take-take, take_at, drop_at, drop-cons, get_or_at, get_or-take}
 use borrow.Author.Tests.{eq-eqb, ne_eqb}
 use Rattle.words.specs.Word.{plus}
-use Rattle.words.proofs.Stores.{set_last}
 use Rattle.rules.specs.Goubin.{psi}
 use Rattle.rules.specs.Shares.{each, refresh_last}
 use Rattle.rules.specs.Short.{psis, joined, summed, shorter, short_of, to_arith_short}
@@ -38,12 +37,6 @@ module _ (k n share : ℕ) (a b : List ℕ) (size : length a ≡ n + 1) (first :
   pub psis_odd : (n % 2 ≡ 0 → ⊥) → b ≡ psis k a
   unfolding psis
   psis_odd h = rw (← all, long, ne_eqb (n % 2) 0 h)
-
--- ---- a zero share behind x, which was copied into the front of a
-pub spread_made : (x front a y ws : List ℕ) (at p : ℕ) → front ≡ x → length a ≡ length x + 1
-    → refresh_last (set (front ++ drop (length x - 0) a) (length x) 0) ws at ≡ (y, p)
-    → refresh_last (x ++ (0 ∷ [])) ws at ≡ (y, p)
-spread_made x front a y ws at p f l e = rw (f, sub-zero (length x), set_last x a 0 (length x) refl (omega arith)) at e
 
 -- ---- a list refreshed and joined
 pub ready_made : (l r ws : List ℕ) (at p : ℕ) → length r ≡ length l → refresh_last l ws at ≡ (r, p)
@@ -117,12 +110,8 @@ sum_made k first z s some size e =
     (get_or z (length s) 0))
 
 -- ---- both lists of the shares x
-module _ (at p q l : ℕ) (place : p ≡ at + l) where
-  pub lists_room : (words : ℕ) → 1 < l → at + (3 * l - 2) ≤ words → p + 2 * (l - 1) ≤ words
-  lists_room words more room = omega arith
-
-  pub two_place : 1 < l → q ≡ p + 2 * (l - 1) → q ≡ at + (3 * l - 2)
-  two_place more e = omega arith
+pub two_place : (at p q l : ℕ) → p ≡ at + l → 1 < l → q ≡ p + 2 * (l - 1) → q ≡ at + (3 * l - 2)
+two_place at p q l place more e = omega arith
 
 pub two_made : (k at p : ℕ) (x a ws : List ℕ) (r : (List ℕ × List ℕ) × ℕ) → refresh_last (x ++ (0 ∷ [])) ws at ≡ (a, p)
     → lists k a ws p ≡ r → two_lists k x ws at ≡ r

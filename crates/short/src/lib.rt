@@ -12,7 +12,7 @@ ghost use Rattle.width.specs.Width.{bits};
 ghost use Rattle.short.specs.Steps.{Many, ready, lists, two_lists};
 
 use shares::{copy, refresh_last};
-use veil::{after, held};
+use veil::{held, places};
 use width::{Word, minus, plus};
 
 // Room for a step: at most eight shares, and a zero share.
@@ -32,10 +32,8 @@ fn psi_each(x: Word, r: &[Word], b: &mut [Word])
     requires { length b.old ≡ length r.now }
     ensures { b.new ≡ map (psi bits x) r.now }
 {
-    let mut i = 0;
-    while i < r.len() {
+    for i in places(r.len()) {
         b[i] = psi(x, r[i]);
-        i = after(i);
     }
 }
 
@@ -116,10 +114,8 @@ fn add_each(x: &[Word], y: &mut [Word])
     requires { length y.old ≡ length x.now }
     ensures { y.new ≡ each (plus bits) x.now y.old }
 {
-    let mut i = 0;
-    while i < x.len() {
+    for i in places(x.len()) {
         y[i] = plus(x[i], y[i]);
-        i = after(i);
     }
 }
 

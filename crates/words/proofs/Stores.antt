@@ -9,18 +9,6 @@ use lib.ListN.{length, get_or, take, drop, set, replicate}
 use lib.ListN.{length-append, length-replicate, replicate-append-replicate, drop_of_length-le}
 use lib.Seq.{sets, sets-eq, set_at, drop-cons, take_at, drop_at, take_all, take-suc, take-suc-set, length-take-le}
 
--- one store more, of what is still to be stored
-pub sets_next : (l s e : List ℕ) (at i : ℕ) → i < length s
-    → sets l (at + i) (drop i s) ≡ e
-    → sets (set l (at + i) (get_or s i 0)) (at + (i + 1)) (drop (i + 1) s) ≡ e
-sets_next l s e at i h p =
-    let q : at + (i + 1) ≡ suc (at + i) = omega arith in
-    rw (q, add-one i) (rw (drop-cons s i 0 h) at p)
-
--- nothing is left to be stored
-pub sets_end : (l s e : List ℕ) (at i : ℕ) → length s ≤ i → sets l at (drop i s) ≡ e → l ≡ e
-sets_end l s e at i h p = rw (drop_of_length-le s h) at p
-
 -- after the stores, the list begins with what it had in front and what was stored
 pub take_sets : (l s : List ℕ) (i : ℕ) → i + length s ≤ length l → take (i + length s) (sets l i s) ≡ take i l ++ s
 take_sets l s i h =

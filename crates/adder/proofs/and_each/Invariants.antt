@@ -1,11 +1,9 @@
 -- up to place i the shares are those of the rule
-use Prim.Native.Nat.{◌-◌}
+use mathlib.Core.Path.{◌≡◌}
 use lib.Bits.{bit_and}
-use Rattle.rules.proofs.Loops.{EachTo}
+use lib.ListN.{take}
+use Rattle.rules.specs.Shares.{each}
 use Rattle.adder.proofs.and_each.Given as goal
 
 abbrev pub invariant-loop-i : goal.invariant-loop-i
-invariant-loop-i l = EachTo bit_and l.n l.x l.y l.z l.i
-
-abbrev pub decreases-loop-i : goal.decreases-loop-i
-decreases-loop-i l = l.n - l.i
+invariant-loop-i l = take l.i l.z ≡ take l.i (each bit_and l.x l.y)

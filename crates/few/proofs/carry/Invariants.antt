@@ -1,5 +1,5 @@
 -- the rounds that are left, from here on, give what all k − 1 give from the start
-use Prim.Native.Nat.{◌+◌, ◌-◌, ◌*◌, ◌≤◌}
+use Prim.Native.Nat.{◌+◌, ◌-◌, ◌*◌}
 use mathlib.Core.Path.{◌≡◌}
 use lib.ListN.{replicate}
 use Rattle.width.specs.Width.{bits}
@@ -8,11 +8,8 @@ use Rattle.rules.specs.Counts.{and_draws}
 use Rattle.few.specs.Shares.{firsts}
 use Rattle.few.proofs.carry.Given as goal
 
-abbrev pub invariant-loop-i : goal.invariant-loop-i
-invariant-loop-i l =
-    (l.i ≤ bits - 1) × (l.u.at ≡ l.initial.u.at + l.i * and_draws l.n)
-    × (carries bits (firsts l.n l.a) (firsts l.n l.t) (bits - 1 - l.i) (firsts l.n l.u.shares) l.words l.u.at
+abbrev pub invariant-loop : goal.invariant-loop
+invariant-loop l =
+    (l.u.at ≡ l.initial.u.at + l.counter * and_draws l.n)
+    × (carries bits (firsts l.n l.a) (firsts l.n l.t) (bits - 1 - l.counter) (firsts l.n l.u.shares) l.words l.u.at
     ≡ carries bits (firsts l.n l.a) (firsts l.n l.t) (bits - 1) (replicate l.n 0) l.words l.initial.u.at)
-
-abbrev pub decreases-loop-i : goal.decreases-loop-i
-decreases-loop-i l = bits - 1 - l.i

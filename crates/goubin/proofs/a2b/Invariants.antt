@@ -1,5 +1,5 @@
 -- the turns that are left end where all of them end: in x ⊕ r
-use Prim.Native.Nat.{◌-◌, ◌*◌, ◌≤◌}
+use Prim.Native.Nat.{◌-◌, ◌*◌}
 use mathlib.Core.Path.{◌≡◌}
 use lib.ListN.{get_or}
 use Rattle.width.specs.Width.{bits}
@@ -7,11 +7,8 @@ use Rattle.rules.specs.Goubin.{a2b_rounds}
 use Rattle.rules.specs.Calls.{a2b_two}
 use Rattle.goubin.proofs.a2b.Given as goal
 
-abbrev pub invariant-loop-i : goal.invariant-loop-i
-invariant-loop-i l =
-    let left = bits - 1 - l.i in
+abbrev pub invariant-loop : goal.invariant-loop
+invariant-loop l =
+    let left = bits - 1 - l.counter in
     let rest = a2b_rounds bits l.a l.r (get_or l.start 8 0) (get_or l.start 3 0) left l.t in
-    (l.i ≤ bits - 1) × (get_or rest (5 * left) 0 ≡ a2b_two bits l.a l.r)
-
-abbrev pub decreases-loop-i : goal.decreases-loop-i
-decreases-loop-i l = bits - 1 - l.i
+    get_or rest (5 * left) 0 ≡ a2b_two bits l.a l.r

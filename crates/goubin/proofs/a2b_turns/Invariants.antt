@@ -1,17 +1,13 @@
 -- what stands in front, and the turns that are left, are the start and all turns
-use Prim.Native.Nat.{◌+◌, ◌-◌, ◌*◌, ◌≤◌}
+use Prim.Native.Nat.{◌+◌, ◌-◌, ◌*◌}
 use mathlib.Core.Path.{◌≡◌}
 use mathlib.Core.List.{◌++◌}
-use lib.ListN.{length, take}
+use lib.ListN.{take}
 use Rattle.width.specs.Width.{bits}
 use Rattle.rules.specs.Goubin.{a2b_rounds}
 use Rattle.goubin.proofs.a2b_turns.Given as goal
 
 abbrev pub invariant-loop-i : goal.invariant-loop-i
 invariant-loop-i l =
-    (l.i ≤ bits - 1) × (length l.entries ≡ 5 * bits + 5)
-    × (take (9 + 5 * l.i) l.entries ++ a2b_rounds bits l.a l.r l.o l.x (bits - 1 - l.i) l.t
-    ≡ take 9 l.initial.entries ++ a2b_rounds bits l.a l.r l.o l.x (bits - 1) l.start)
-
-abbrev pub decreases-loop-i : goal.decreases-loop-i
-decreases-loop-i l = bits - 1 - l.i
+    take (9 + 5 * l.i) l.entries ++ a2b_rounds bits l.a l.r l.o l.x (bits - 1 - l.i) l.t
+    ≡ take 9 l.initial.entries ++ a2b_rounds bits l.a l.r l.o l.x (bits - 1) l.start

@@ -1,22 +1,14 @@
-use borrow.Author.Rules.{rules}
-use native.Mathlib.Omega.{arith}
-use Prim.Native.Nat.{◌+◌, ◌-◌}
-use mathlib.Core.Path.{◌≡◌, sym, ap, ◌∙◌}
-use lib.ListN.{length, get_or}
-use Rattle.rules.proofs.Openings.{opened_drop, opened_past}
-use lib.Bits.{bit_xor}
+-- from the last share to the first
+use Rattle.std.proofs.Common.{◌≡◌, ℕ, List, [], ◌∷◌, reverse, fold, bit_xor, refl, ap, rules}
+use Rattle.std.proofs.lemmas.List.{reverse-append}
+use Rattle.std.proofs.lemmas.List.Sums.{fold_push}
+use Rattle.rules.specs.Supply.{opened}
 use Rattle.shares.proofs.open_xor.Goals as goal
 
-pub loop-i-init : goal.loop-i-init
-loop-i-init c = (search rules, sym (opened_past _ (length c.args.x.now) (omega arith)))
-
-pub loop-i-preserved : goal.loop-i-preserved
-loop-i-preserved c =
-    let l = c.loop-i in
-    let x = c.args.x.now in
-    let i = l.i - 1 in
-    let q : i + 1 ≡ l.i = omega arith in
-    (search rules, sym (opened_drop x i (omega arith) ∙ ap (bit_xor (get_or x i 0)) (rw q (sym l.invariant.1))))
+opened_back : (x : List ℕ) → fold (λ (r s : ℕ). bit_xor s r) 0 (reverse x) ≡ opened x
+unfolding opened
+opened_back [] = refl
+opened_back (a ∷ x) = rw (reverse-append (a ∷ []) x, fold_push) (ap (bit_xor a) (opened_back x))
 
 pub returns : goal.returns
-returns c = let l = c.loop-i in let none : l.i ≡ 0 = omega arith in rw none at l.invariant.1
+returns c = rw (← opened_back c.args.x.now) (search rules)

@@ -6,15 +6,13 @@ use Rattle.shares.proofs.refresh_at.Goals as goal
 
 pub loop-i-init : goal.loop-i-init
 unfolding refresh
-loop-i-init c = (search rules, search rules, simp sub-zero, simp sub-zero cc)
+loop-i-init c = (simp sub-zero, simp sub-zero cc)
 
 pub refresh_row-p-requires : goal.refresh_row-p-requires
 refresh_row-p-requires c = (search rules, search rules, search rows_room)
 
 pub loop-i-preserved : goal.loop-i-preserved
-loop-i-preserved c =
-    let row = c.refresh_row-p.ensures.0 in
-    (search rules, search rules, search rows_place, order_next _ _ _ _ _ _ _ _ _ (search rules) row (search rules))
+loop-i-preserved c = (search rows_place, search order_next)
 
 pub returns : goal.returns
 returns c = (search order_end, search rows_end)

@@ -1,12 +1,9 @@
 -- up to place i the shares are those of the rule
-use Prim.Native.Nat.{◌-◌}
-use lib.ListN.{length}
+use mathlib.Core.Path.{◌≡◌}
+use lib.ListN.{take}
 use lib.Bits.{bit_xor}
-use Rattle.rules.proofs.Loops.{EachTo}
+use Rattle.rules.specs.Shares.{each}
 use Rattle.shares.proofs.xor_each.Given as goal
 
 abbrev pub invariant-loop-i : goal.invariant-loop-i
-invariant-loop-i l = EachTo bit_xor (length l.x) l.x l.y l.z l.i
-
-abbrev pub decreases-loop-i : goal.decreases-loop-i
-decreases-loop-i l = length l.x - l.i
+invariant-loop-i l = take l.i l.z ≡ take l.i (each bit_xor l.x l.y)

@@ -1,5 +1,4 @@
--- up to place i the sums, and from there on y as it came
-use Prim.Native.Nat.{◌-◌, ◌≤◌}
+-- up to the next place the sums, and from there on y as it came
 use mathlib.Core.Path.{◌≡◌}
 use mathlib.Core.List.{◌++◌}
 use lib.ListN.{length, take, drop}
@@ -10,8 +9,5 @@ use Rattle.short.proofs.add_each.Given as goal
 
 abbrev pub invariant-loop-i : goal.invariant-loop-i
 invariant-loop-i l =
-    (l.i ≤ length l.x) × (length l.y ≡ length l.x) × (l.y
-    ≡ take l.i (each (plus bits) l.x l.initial.y) ++ drop l.i l.initial.y)
-
-abbrev pub decreases-loop-i : goal.decreases-loop-i
-decreases-loop-i l = length l.x - l.i
+    let s = l.i-iterator in
+    (s.end ≡ length l.x) × (l.y ≡ take s.at (each (plus bits) l.x l.initial.y) ++ drop s.at l.initial.y)
