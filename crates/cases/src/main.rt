@@ -4,7 +4,7 @@
 // case is told with its number. No random words: at one share none are drawn.
 #![tactic(auto)]
 
-ghost use Rattle.std.specs.Prelude.{◌≡◌, ◌≤◌, length, IfOk, IfSome};
+ghost use Rattle.std.specs.Prelude.{◌≤◌, IfSome};
 
 use lines::{Complaint, Fault};
 use rules::{
@@ -29,6 +29,9 @@ const SHA256_TAG: usize = SHA256_CHAIN_WORDS * WORD_BYTES;
 
 const SHORT_TAG: usize = 16;
 
+// The number of a call that was done.
+const DONE: u32 = 0;
+
 // How many cases there are, and how many of them are right.
 #[derive(Clone, Copy, Default)]
 struct Tally {
@@ -40,12 +43,12 @@ struct Tally {
 fn make_tag(hash: u32, key: &[u8], data: &[u8], tag: &mut [u8]) -> bool {
     let mut shares = [0; BLOCK_WORDS];
     let split = calls::split_key(hash, 1, key, &mut shares, &[]);
-    split.number == 0 && calls::tag(hash, 1, &shares, data, tag, &[]).number == 0
+    split.number == DONE && calls::tag(hash, 1, &shares, data, tag, &[]).number == DONE
 }
 
 // The hash whose digests may have so many bytes, and how many a whole one has.
 fn hash_of(size: usize) -> Option<(u32, usize)>
-    ensures { IfSome result (λ found. (size ≤ found.1) × (found.1 ≤ 32)) }
+    ensures { IfSome result (λ found. (size ≤ found.1) × (found.1 ≤ SHA256_TAG)) }
 {
     match size {
         SHA1_TAG => Some((SHA1, SHA1_TAG)),

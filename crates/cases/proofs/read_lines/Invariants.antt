@@ -11,4 +11,5 @@ invariant-loop-content l = record {
   lines : l.line + (if split_done l.content-iterator then 0 else length (split_rest l.content-iterator) + 1)
       ≤ length l.text + 1;
   cases : l.tally.cases ≤ l.line;
-  right : l.tally.right ≤ l.tally.cases }
+  right : l.tally.right ≤ l.tally.cases;
+}
