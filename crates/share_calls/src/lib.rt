@@ -1,5 +1,5 @@
 // The calls on shares, each with its whole outcome: it asks how many words it draws and which number it gives, and then
-// calls the layer below. `flamivorse_c` exports them.
+// calls the layer below. `flamivorse` exports them.
 #![tactic(auto)]
 
 ghost use Rattle.std.specs.Prelude.{◌≡◌};
