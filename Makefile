@@ -22,7 +22,7 @@ version := $(shell sed -n 's/^.define FLAMIVORSE_VERSION "\(.*\)"/\1/p' include/
 soname := libflamivorse.so.$(basename $(version))
 copy = archive/copy.s
 out = target/lib
-proved = crates/flamivorse_c/out/libflamivorse_c.a
+proved = crates/flamivorse/out/libflamivorse.a
 library = $(or $(FLAMIVORSE_LIB_DIR),$(out))/libflamivorse.a
 shared = $(out)/$(soname)
 program = rust/target/x86_64-unknown-linux-gnu/release/flamivorse
@@ -61,7 +61,7 @@ release:
 
 $(out)/libflamivorse.a: $(proved) $(copy) archive/clear.s Makefile
 	mkdir -p $(out)/parts
-	$(AR) p $(proved) flamivorse_c.o >$(out)/parts/proved.o
+	$(AR) p $(proved) flamivorse.o >$(out)/parts/proved.o
 	$(OBJCOPY) --redefine-sym memcpy=private_copy --redefine-sym memset=private_fill $(out)/parts/proved.o
 	$(AS) $(copy) -o $(out)/parts/copy.o
 	$(AS) archive/clear.s -o $(out)/parts/clear.o
@@ -83,7 +83,7 @@ $(proved): crates.txt $(shell find $(wildcard crates/*/src crates/*/specs crates
 	    "Rattle's rt is missing, and proves and builds the library. With FLAMIVORSE_LIB_DIR an archive is taken" \
 	    'from a folder, for example of a release.'; exit 2; }
 	cd crates/flamivorse && rt all check    # side by side; the next line would go one by one
-	cd crates/flamivorse_c && rt lib --cpu=x86-64    # for every such processor
+	cd crates/flamivorse && rt lib --cpu=x86-64    # for every such processor
 
 $(program): $(library) rust/Cargo.toml $(shell find rust/cli rust/flamivorse)
 	bash -euo pipefail -c '. tests/setup; build_program'

@@ -4,11 +4,12 @@
 // case is told with its number. No random words: at one share none are drawn.
 #![tactic(auto)]
 
-ghost use Rattle.std.specs.Prelude.{◌≡◌, ◌≤◌, length};
+ghost use Rattle.std.specs.Prelude.{◌≤◌, IfSome};
 
-use lines::{FINE, TOO_SHORT};
+use lines::{Complaint, Fault};
 use rules::{
-    BLOCK_WORDS, CHAIN_WORDS, LONGEST_KEY, LONGEST_MESSAGE, SHA256_CHAIN_WORDS, WORD_BYTES,
+    BLOCK_WORDS, CHAIN_WORDS, LONGEST_KEY, LONGEST_MESSAGE, SHA1, SHA256, SHA256_CHAIN_WORDS,
+    WORD_BYTES,
 };
 use std::fs::File;
 use std::io::Read;
@@ -28,150 +29,111 @@ const SHA256_TAG: usize = SHA256_CHAIN_WORDS * WORD_BYTES;
 
 const SHORT_TAG: usize = 16;
 
+// The number of a call that was done.
+const DONE: u32 = 0;
+
 // How many cases there are, and how many of them are right.
-#[derive(Clone, Copy)]
+#[derive(Clone, Copy, Default)]
 struct Tally {
     cases: u64,
     right: u64,
 }
 
-// The tag of the data under the key by SHA-1, at one share; whether both calls were done.
-fn sha1_tag(key: &[u8], data: &[u8], tag: &mut [u8]) -> bool {
-    let words = [0u32; 0];
-    let mut shares = [0u32; BLOCK_WORDS];
-    let split = flamivorse::flamivorse_split_key(1, key, &mut shares, &words);
-    if split.number != 0 {
-        return false;
-    }
-    let made = flamivorse::flamivorse_hmac_sha1(1, &shares, data, tag, &words);
-    made.number == 0
+// The tag of the data under the key by a hash, at one share; whether both calls were done.
+fn make_tag(hash: u32, key: &[u8], data: &[u8], tag: &mut [u8]) -> bool {
+    let mut shares = [0; BLOCK_WORDS];
+    let split = calls::split_key(hash, 1, key, &mut shares, &[]);
+    split.number == DONE && calls::tag(hash, 1, &shares, data, tag, &[]).number == DONE
 }
 
-// The same by SHA-256.
-fn sha256_tag(key: &[u8], data: &[u8], tag: &mut [u8]) -> bool {
-    let words = [0u32; 0];
-    let mut shares = [0u32; BLOCK_WORDS];
-    let split = flamivorse::flamivorse_sha256_split_key(1, key, &mut shares, &words);
-    if split.number != 0 {
-        return false;
-    }
-    let made = flamivorse::flamivorse_hmac_sha256(1, &shares, data, tag, &words);
-    made.number == 0
-}
-
-// The tag by the hash that has digests of so many bytes, in front of what the room has.
-fn make_tag(size: usize, key: &[u8], data: &[u8], room: &mut [u8]) -> bool
-    requires { length room.old ≡ 32 }
+// The hash whose digests may have so many bytes, and how many a whole one has.
+fn hash_of(size: usize) -> Option<(u32, usize)>
+    ensures { IfSome result (λ found. (size ≤ found.1) × (found.1 ≤ SHA256_TAG)) }
 {
-    if size == SHA1_TAG {
-        let front = &mut room[0..SHA1_TAG];
-        return sha1_tag(key, data, front);
+    match size {
+        SHA1_TAG => Some((SHA1, SHA1_TAG)),
+        SHORT_TAG | SHA256_TAG => Some((SHA256, SHA256_TAG)),
+        _ => None,
     }
-    sha256_tag(key, data, room)
 }
 
-// Writes the line of a case; whether its tag is the digest.
-fn run_case(line: u64, number: &[u8], key: &[u8], data: &[u8], digest: &[u8]) -> bool
-    requires { length digest.now ≤ 32 }
-{
-    let mut room = [0u8; SHA256_TAG];
-    let size = digest.len();
-    if !make_tag(size, key, data, &mut room) {
-        return lines::complain(line, b"the library refuses the case");
+// A field of a line in hex, read into the room.
+fn read_field<'a>(
+    text: &[u8],
+    others: usize,
+    name: &'static [u8],
+    room: &'a mut [u8],
+) -> Result<&'a [u8], Complaint> {
+    let most = room.len();
+    match lines::hex_bytes(lines::field(text, others), room) {
+        Ok(count) => Ok(&room[..count]),
+        Err(fault) => Err(Complaint::Field { name, fault, most }),
     }
-    let tag = &room[0..size];
-    lines::write_case(number, tag, check::same(tag, digest))
 }
 
-// Whether a digest may have so many bytes.
-fn is_size(count: usize) -> bool {
-    if count == SHA1_TAG {
-        return true;
-    }
-    if count == SHORT_TAG {
-        return true;
-    }
-    count == SHA256_TAG
-}
-
-// Reads a line's digest, and runs its case.
-fn read_digest(line: u64, text: &[u8], key: &[u8], data: &[u8]) -> bool {
-    let mut room = [0u8; SHA256_TAG];
-    let read = lines::hex_bytes(lines::field(text, 3), &mut room);
-    if read.fault != FINE {
-        return lines::complain_of(line, b"digest", read.fault, SHA256_TAG);
-    }
-    if !is_size(read.count) {
-        return lines::complain_of(line, b"digest", TOO_SHORT, SHA256_TAG);
-    }
-    if lines::field(text, 4).len() != 0 {
-        return lines::complain(line, b"more than four fields");
-    }
-    let end = read.count;
-    run_case(line, lines::field(text, 0), key, data, &room[..end])
-}
-
-// Reads a line's data, and then the rest.
-fn read_data(line: u64, text: &[u8], key: &[u8]) -> bool {
-    let mut data = [0u8; LONGEST_MESSAGE];
-    let read = lines::hex_bytes(lines::field(text, 2), &mut data);
-    if read.fault != FINE {
-        return lines::complain_of(line, b"data", read.fault, LONGEST_MESSAGE);
-    }
-    let end = read.count;
-    read_digest(line, text, key, &data[..end])
-}
-
-// Reads a line's number and key, and then the rest; whether it is a case whose tag is its digest.
-fn read_case(line: u64, text: &[u8]) -> bool {
+// Runs the case of a line, and writes how it went; whether its tag is its digest.
+fn run_case(text: &[u8]) -> Result<bool, Complaint> {
     if LONGEST_LINE < text.len() {
-        return lines::complain(line, b"longer than 11000 bytes");
+        return Err(Complaint::Line(b"longer than 11000 bytes"));
     }
-    if !lines::is_number(lines::field(text, 0)) {
-        return lines::complain(line, b"the first field is not the number of a case");
+    let number = lines::field(text, 0);
+    if !lines::is_number(number) {
+        return Err(Complaint::Line(b"the first field is not the number of a case"));
     }
-    let mut key = [0u8; LONGEST_KEY];
-    let read = lines::hex_bytes(lines::field(text, 1), &mut key);
-    if read.fault != FINE {
-        return lines::complain_of(line, b"key", read.fault, LONGEST_KEY);
+    let mut key = [0; LONGEST_KEY];
+    let key = read_field(text, 1, b"key", &mut key)?;
+    let mut data = [0; LONGEST_MESSAGE];
+    let data = read_field(text, 2, b"data", &mut data)?;
+    let mut digest = [0; SHA256_TAG];
+    let digest = read_field(text, 3, b"digest", &mut digest)?;
+    let Some((hash, whole)) = hash_of(digest.len()) else {
+        return Err(Complaint::Field {
+            name: b"digest",
+            fault: Fault::TooShort,
+            most: SHA256_TAG,
+        });
+    };
+    if !lines::field(text, 4).is_empty() {
+        return Err(Complaint::Line(b"more than four fields"));
     }
-    let end = read.count;
-    read_data(line, text, &key[..end])
+    let mut tag = [0; SHA256_TAG];
+    if !make_tag(hash, key, data, &mut tag[..whole]) {
+        return Err(Complaint::Line(b"the library refuses the case"));
+    }
+    let tag = &tag[..digest.len()];
+    let right = tag == digest;
+    lines::write_case(number, tag, right);
+    Ok(right)
 }
 
-// What a line adds to the count.
-fn read_line(line: u64, text: &[u8]) -> Tally
-    ensures { (result.right ≤ result.cases) × (result.cases ≤ 1) }
-{
-    if lines::is_comment(text) {
-        return Tally { cases: 0, right: 0 };
+// Whether a line's case is right. What is wrong with a line that has none is told.
+fn is_right(line: u64, text: &[u8]) -> bool {
+    match run_case(text) {
+        Ok(right) => right,
+        Err(complaint) => {
+            lines::complain(line, complaint);
+            false
+        }
     }
-    if read_case(line, text) {
-        return Tally { cases: 1, right: 1 };
-    }
-    Tally { cases: 1, right: 0 }
 }
 
 // Runs each line of a file, and counts.
 fn read_lines(text: &[u8]) -> Tally
     ensures { result.right ≤ result.cases }
 {
-    let mut cases: u64 = 0;
-    let mut right: u64 = 0;
-    let mut line: u64 = 0;
-    let mut at = 0;
-    while at < text.len() {
-        let end = lines::line_end(text, at);
+    let mut tally = Tally::default();
+    let mut line = 0;
+    for content in text.split(|&b| b == b'\n') {
         line += 1;
-        let one = read_line(line, &text[at..end]);
-        cases += one.cases;
-        right += one.right;
-        at = end + 1;
+        if lines::is_comment(content) {
+            continue;
+        }
+        tally.cases += 1;
+        if is_right(line, content) {
+            tally.right += 1;
+        }
     }
-    Tally {
-        cases: cases,
-        right: right,
-    }
+    tally
 }
 
 // Runs the cases of a file, and writes how many of them are right.

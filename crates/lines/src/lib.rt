@@ -1,172 +1,89 @@
 // Lines of fields, in hex or in decimal: reading them, and telling what is wrong with one.
 #![tactic(auto)]
 
-ghost use Rattle.std.specs.Prelude.{◌≡◌, ◌+◌, ◌*◌, ◌≤◌, ◌<◌, length};
+ghost use Rattle.std.specs.Prelude.{◌≡◌, ◌≢◌, ◌+◌, ◌*◌, ◌/◌, ◌%◌, ◌≤◌, ◌<◌, ◌↔◌, length};
+ghost use Rattle.std.specs.Prelude.{IsNone, IfSome, IsSomeAnd, IfOk, IsErrOf};
 ghost use Rattle.io.specs.Counts.{IsPrefixLen};
 
 // The descriptor of standard output.
 const STDOUT: i32 = 1;
 
 // What may be wrong with a field in hex.
-pub const FINE: u8 = 0;
-
-pub const MISSING: u8 = 1;
-
-pub const BAD_DIGIT: u8 = 2;
-
-pub const ODD: u8 = 3;
-
-pub const TOO_LONG: u8 = 4;
-
-pub const TOO_SHORT: u8 = 5;
-
-// A field in hex that was read: what is wrong with it, and how many bytes it has.
-#[derive(Clone, Copy)]
-pub struct Bytes {
-    pub fault: u8,
-    pub count: usize,
+#[derive(Clone, Copy, PartialEq, Eq, Debug)]
+pub enum Fault {
+    Missing,
+    BadDigit,
+    Odd,
+    TooLong,
+    TooShort,
 }
 
 // ---- reading
 
-// The value of a hex digit in lower case, and 16 for any other byte.
-fn nibble(b: u8) -> u8
-    ensures upper_bound { result ≤ 16 }
-    ensures decimal { 48 ≤ b → b ≤ 57 → result + 48 ≡ b }
-    ensures letter { 97 ≤ b → b ≤ 102 → result + 87 ≡ b }
-    ensures other { (b < 48 → result ≡ 16) × (57 < b → b < 97 → result ≡ 16) × (102 < b → result ≡ 16) }
+// The value of a hex digit in lower case.
+fn nibble(b: u8) -> Option<u8>
+    ensures upper_bound { IfSome result (λ n. n < 16) }
+    ensures decimal { 48 ≤ b → b ≤ 57 → IsSomeAnd result (λ n. n + 48 ≡ b) }
+    ensures letter { 97 ≤ b → b ≤ 102 → IsSomeAnd result (λ n. n + 87 ≡ b) }
+    ensures other { (b < 48 → IsNone result) × (57 < b → b < 97 → IsNone result) × (102 < b → IsNone result) }
 {
-    if b < 48 {
-        return 16;
-    }
-    if b <= 57 {
-        return b - 48;
-    }
-    if b < 97 {
-        return 16;
-    }
-    if b <= 102 {
-        return b - 87;
-    }
-    16
-}
-
-// A field that cannot be read.
-fn faulty(fault: u8) -> Bytes
-    ensures { (result.fault ≡ fault) × (result.count ≡ 0) }
-{
-    Bytes {
-        fault: fault,
-        count: 0,
+    match b {
+        b'0'..=b'9' => Some(b - b'0'),
+        b'a'..=b'f' => Some(b - b'a' + 10),
+        _ => None,
     }
 }
 
-// Reads a field of hex digits in pairs to the start of out. No digit is left over where nothing is wrong.
-pub fn hex_bytes(field: &[u8], out: &mut [u8]) -> Bytes
-    ensures prefix_len { IsPrefixLen result.count out.new }
-    ensures all { result.fault ≡ 0 → 2 * result.count ≡ length field.now }
+// Reads a field of hex digits in pairs to the start of out, and says how many bytes it has. No digit is left over.
+pub fn hex_bytes(field: &[u8], out: &mut [u8]) -> Result<usize, Fault>
+    ensures prefix_len { IfOk result (λ count. IsPrefixLen count out.new) }
+    ensures all { IfOk result (λ count. 2 * count ≡ length field.now) }
+    ensures same_room { length out.new ≡ length out.old }
+    ensures missing { IsErrOf result Fault.Missing ↔ (length field.now ≡ 0) }
+    ensures odd { IsErrOf result Fault.Odd ↔ (length field.now % 2 ≢ 0) }
+    ensures too_long { IsErrOf result Fault.TooLong
+        ↔ ((length field.now % 2 ≡ 0) × (2 * length out.old < length field.now)) }
 {
-    if field.len() == 0 {
-        return faulty(MISSING);
+    if field.is_empty() {
+        return Err(Fault::Missing);
     }
-    if field.len() % 2 != 0 {
-        return faulty(ODD);
+    let (pairs, rest) = field.as_chunks::<2>();
+    if !rest.is_empty() {
+        return Err(Fault::Odd);
     }
-    if out.len() < field.len() / 2 {
-        return faulty(TOO_LONG);
+    if out.len() < pairs.len() {
+        return Err(Fault::TooLong);
     }
-    let mut i = 0;
-    while i < field.len() / 2 {
-        let high = nibble(field[2 * i]);
-        let low = nibble(field[2 * i + 1]);
-        if high == 16 {
-            return faulty(BAD_DIGIT);
-        }
-        if low == 16 {
-            return faulty(BAD_DIGIT);
-        }
-        out[i] = high * 16 + low;
-        i += 1;
+    for (byte, &[high, low]) in out.iter_mut().zip(pairs) {
+        let (Some(high), Some(low)) = (nibble(high), nibble(low)) else {
+            return Err(Fault::BadDigit);
+        };
+        *byte = high * 16 + low;
     }
-    Bytes {
-        fault: FINE,
-        count: i,
-    }
+    Ok(pairs.len())
 }
 
-// Whether a byte stands between fields: a space, a tab or a carriage return.
+// Whether a byte stands between fields.
 fn is_blank(b: u8) -> bool {
-    if b == 32 {
-        return true;
-    }
-    if b == 9 {
-        return true;
-    }
-    b == 13
-}
-
-// Where the blanks that start at `from` end, or the bytes that are no blanks.
-fn skip(line: &[u8], from: usize, blank: bool) -> usize
-    requires { from ≤ length line.now }
-    ensures { (from ≤ result) × (result ≤ length line.now) }
-{
-    let mut i = from;
-    while i < line.len() {
-        if is_blank(line[i]) != blank {
-            return i;
-        }
-        i += 1;
-    }
-    i
+    matches!(b, b' ' | b'\t' | b'\r')
 }
 
 // The field of a line that comes after so many others, empty where there is none.
 pub fn field(line: &[u8], others: usize) -> &[u8] {
-    let mut start = skip(line, 0, true);
-    let mut left = others;
-    while 0 < left {
-        let end = skip(line, start, false);
-        start = skip(line, end, true);
-        left -= 1;
-    }
-    let end = skip(line, start, false);
-    &line[start..end]
+    line.split(|&b| is_blank(b))
+        .filter(|field| !field.is_empty())
+        .nth(others)
+        .unwrap_or(&[])
 }
 
 // Whether a line is a comment or blank.
-pub fn is_comment(text: &[u8]) -> bool {
-    let first = field(text, 0);
-    if first.len() == 0 {
-        return true;
-    }
-    first[0] == 35
+pub fn is_comment(line: &[u8]) -> bool {
+    matches!(field(line, 0), [] | [b'#', ..])
 }
 
 // Whether a field is a number: one decimal digit or more.
 pub fn is_number(text: &[u8]) -> bool {
-    let mut i = 0;
-    while i < text.len() {
-        if 9 < nibble(text[i]) {
-            return false;
-        }
-        i += 1;
-    }
-    0 < i
-}
-
-// Where the line that starts at `from` ends.
-pub fn line_end(text: &[u8], from: usize) -> usize
-    requires { from ≤ length text.now }
-    ensures { (from ≤ result) × (result ≤ length text.now) }
-{
-    let mut i = from;
-    while i < text.len() {
-        if text[i] == 10 {
-            return i;
-        }
-        i += 1;
-    }
-    i
+    !text.is_empty() && text.iter().all(|b| b.is_ascii_digit())
 }
 
 // ---- writing
@@ -176,74 +93,63 @@ pub fn write(text: &[u8]) {
     io::write_all(STDOUT, text);
 }
 
-// A byte as a wider number: that an argument fits is known, and of what is read in a loop it would have to be proved.
-fn wide(b: u8) -> u64 {
-    b as u64
-}
-
 // Writes bytes in hex.
 fn write_hex(bytes: &[u8]) {
-    let mut i = 0;
-    while i < bytes.len() {
-        io::print_hex(STDOUT, wide(bytes[i]), 2);
-        i += 1;
+    for &b in bytes {
+        io::print_hex(STDOUT, u64::from(b), 2);
     }
 }
 
-// Starts to tell what is wrong with a line.
-fn write_place(line: u64) {
-    write(b"line ");
-    io::print_decimal(STDOUT, line);
-    write(b": ");
+// What is wrong with a line: as a whole, or with a field in hex that has room for so many bytes.
+#[derive(Clone, Copy, Debug)]
+pub enum Complaint {
+    Line(&'static [u8]),
+    Field {
+        name: &'static [u8],
+        fault: Fault,
+        most: usize,
+    },
 }
 
 // Tells what is wrong with a line.
-pub fn complain(line: u64, what: &[u8]) -> bool {
-    write_place(line);
-    write(what);
+pub fn complain(line: u64, complaint: Complaint) {
+    write(b"line ");
+    io::print_decimal(STDOUT, line);
+    write(b": ");
+    match complaint {
+        Complaint::Line(what) => write(what),
+        Complaint::Field { name, fault, most } => write_fault(name, fault, most),
+    }
     write(b"\n");
-    false
 }
 
-// Tells what is wrong with a field in hex, which has room for so many bytes.
-pub fn complain_of(line: u64, name: &[u8], fault: u8, most: usize) -> bool {
-    write_place(line);
+// Writes what is wrong with a field in hex.
+fn write_fault(name: &[u8], fault: Fault, most: usize) {
     write(b"the ");
     write(name);
-    if fault == MISSING {
-        write(b" is missing\n");
-        return false;
+    match fault {
+        Fault::Missing => write(b" is missing"),
+        Fault::BadDigit => write(b" has a bad hex digit"),
+        Fault::Odd => write(b" has an odd number of hex digits"),
+        Fault::TooLong => write_limit(b" has more than ", most),
+        Fault::TooShort => write_limit(b" has fewer than ", most),
     }
-    if fault == BAD_DIGIT {
-        write(b" has a bad hex digit\n");
-        return false;
-    }
-    if fault == ODD {
-        write(b" has an odd number of hex digits\n");
-        return false;
-    }
-    if fault == TOO_LONG {
-        write(b" has more than ");
-    } else {
-        write(b" has fewer than ");
-    }
+}
+
+// Writes that a field's bytes are more or fewer than it may have.
+fn write_limit(comparison: &[u8], most: usize) {
+    write(comparison);
     io::print_decimal(STDOUT, most as u64);
-    write(b" bytes\n");
-    false
+    write(b" bytes");
 }
 
 // Writes the line of a case: its number, its tag and whether that is right.
-pub fn write_case(number: &[u8], tag: &[u8], right: bool) -> bool {
+pub fn write_case(number: &[u8], tag: &[u8], right: bool) {
     write(b"case ");
     write(number);
     write(b" ");
     write_hex(tag);
-    if right {
-        write(b" ok\n");
-    } else {
-        write(b" WRONG\n");
-    }
-    right
+    write(if right { b" ok\n" } else { b" WRONG\n" });
 }
 
 // Writes how many of the cases are right.

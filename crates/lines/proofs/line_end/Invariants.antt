@@ -1,9 +1,0 @@
--- the place lies between `from` and the text's end; what is left of the text falls
-use Rattle.std.proofs.Common.{◌-◌, ◌≤◌, length}
-use Rattle.lines.proofs.line_end.Given as goal
-
-abbrev pub invariant-loop-i : goal.invariant-loop-i
-invariant-loop-i l = (l.from ≤ l.i) × (l.i ≤ length l.text)
-
-abbrev pub decreases-loop-i : goal.decreases-loop-i
-decreases-loop-i l = length l.text - l.i
