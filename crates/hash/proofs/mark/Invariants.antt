@@ -7,4 +7,5 @@ use Rattle.hash.proofs.mark.Given as goal
 
 abbrev pub invariant-loop-w : goal.invariant-loop-w
 invariant-loop-w l =
-    (length l.z ≡ length l.values * l.n) × (marking l.n (drop l.w l.values) l.w l.z ≡ marking l.n l.values 0 l.initial.z)
+    (length l.z ≡ length l.values * l.n)
+    × (marking l.n (drop l.w l.values) l.w l.z ≡ marking l.n l.values 0 l.initial.z)
