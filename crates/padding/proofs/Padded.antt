@@ -9,7 +9,7 @@ use lib.ListN.{length, get_or, set, take, drop, replicate, length-drop, length-r
 use lib.ListN.{replicate-append-replicate}
 use lib.Seq.{get_or-append-add, get_or-take, get_or-drop, length-take-le, take_at, drop_at, drop-append-add}
 use Rattle.std.specs.Int.{w32, w64, to_be_bytes, from_be_bytes}
-use Rattle.words.proofs.Stores.{filled_next, filled_end, lent_zeros}
+use Rattle.words.proofs.Stores.{filled_next, lent_zeros}
 use Rattle.rules.specs.Hash.{Hash, bytes_of, number_of, words_of, zeros, padding, ended, ending}
 use Rattle.rules.specs.Standard.{SHA1}
 use Rattle.rules.specs.Counts.{standard_of}

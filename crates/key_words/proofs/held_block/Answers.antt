@@ -1,6 +1,5 @@
-use borrow.Author.Rules.{rules}
 use Rattle.key_words.proofs.Held.{block_next}
 use Rattle.key_words.proofs.held_block.Goals as goal
 
 pub loop-w-preserved : goal.loop-w-preserved
-loop-w-preserved c = (search rules, search block_next)
+loop-w-preserved c = search block_next

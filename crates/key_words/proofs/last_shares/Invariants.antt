@@ -10,5 +10,5 @@ use Rattle.key_words.proofs.last_shares.Given as goal
 abbrev pub invariant-loop-w : goal.invariant-loop-w
 invariant-loop-w l =
     let m = length l.initial.z in
-    (length l.z ≡ m) × (l.p ≡ l.at + l.w * (l.n - 1))
+    (l.p ≡ l.at + l.w * (l.n - 1))
     × (take l.w l.z ≡ take l.w (last_shares l.n (key_words (SHA1 32) m l.key) l.words l.at))

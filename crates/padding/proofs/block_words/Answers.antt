@@ -1,7 +1,6 @@
 use borrow.Author.Rules.{rules}
-use lib.ListN.{length-set}
 use Rattle.padding.proofs.Padded.{block_next}
 use Rattle.padding.proofs.block_words.Goals as goal
 
 pub loop-w-preserved : goal.loop-w-preserved
-loop-w-preserved c = (simp length-set (search rules), search (block_next, rules))
+loop-w-preserved c = search (block_next, rules)
