@@ -8,8 +8,8 @@ ghost use Rattle.std.specs.Prelude.{◌≤◌, IfSome};
 
 use lines::{Complaint, Fault};
 use rules::{
-    BLOCK_WORDS, CHAIN_WORDS, LONGEST_KEY, LONGEST_MESSAGE, SHA1, SHA256, SHA256_CHAIN_WORDS,
-    WORD_BYTES,
+    Algorithm, BLOCK_WORDS, CHAIN_WORDS, LONGEST_KEY, LONGEST_MESSAGE, Refusal,
+    SHA256_CHAIN_WORDS, WORD_BYTES,
 };
 use std::fs::File;
 use std::io::Read;
@@ -29,9 +29,6 @@ const SHA256_TAG: usize = SHA256_CHAIN_WORDS * WORD_BYTES;
 
 const SHORT_TAG: usize = 16;
 
-// The number of a call that was done.
-const DONE: u32 = 0;
-
 // How many cases there are, and how many of them are right.
 #[derive(Clone, Copy, Default)]
 struct Tally {
@@ -40,19 +37,24 @@ struct Tally {
 }
 
 // The tag of the data under the key by a hash, at one share; whether both calls were done.
-fn make_tag(hash: u32, key: &[u8], data: &[u8], tag: &mut [u8]) -> bool {
+fn make_tag(
+    algorithm: Algorithm,
+    key: &[u8],
+    data: &[u8],
+    tag: &mut [u8],
+) -> Result<usize, Refusal> {
     let mut shares = [0; BLOCK_WORDS];
-    let split = calls::split_key(hash, 1, key, &mut shares, &[]);
-    split.number == DONE && calls::tag(hash, 1, &shares, data, tag, &[]).number == DONE
+    calls::split_key(algorithm, 1, key, &mut shares, &[])?;
+    calls::tag(algorithm, 1, &shares, data, tag, &[])
 }
 
 // The hash whose digests may have so many bytes, and how many a whole one has.
-fn hash_of(size: usize) -> Option<(u32, usize)>
+fn hash_of(size: usize) -> Option<(Algorithm, usize)>
     ensures { IfSome result (λ found. (size ≤ found.1) × (found.1 ≤ SHA256_TAG)) }
 {
     match size {
-        SHA1_TAG => Some((SHA1, SHA1_TAG)),
-        SHORT_TAG | SHA256_TAG => Some((SHA256, SHA256_TAG)),
+        SHA1_TAG => Some((Algorithm::Sha1, SHA1_TAG)),
+        SHORT_TAG | SHA256_TAG => Some((Algorithm::Sha256, SHA256_TAG)),
         _ => None,
     }
 }

@@ -1,5 +1,5 @@
 -- The bits that were found to differ, as the code's loop gathers them: none so far, and the rest the same.
-use Prim.Native.Nat.{ℕ, ◌+◌, ◌-◌, ◌/◌, ◌≤◌, ◌<◌}
+use Prim.Native.Nat.{ℕ, ◌+◌, ◌≤◌, ◌<◌}
 use mathlib.Core.Path.{◌≡◌, refl, sym, ap, ◌∙◌}
 use mathlib.Core.Bool.{Bool, true, false}
 use mathlib.Core.List.{List, [], ◌∷◌}
@@ -10,7 +10,7 @@ use lib.Dec.{eqb}
 use lib.ListN.{length, get_or, drop, drop_of_length-le}
 use lib.Seq.{drop-cons}
 use borrow.Author.Tests.{eqb-true, eqb-false, eq-eqb, ne_eqb}
-use Rattle.rules.specs.Numbers.{choose, both}
+use Rattle.rules.specs.Numbers.{both}
 use Rattle.rules.specs.Calls.{same, same_tag}
 
 -- an OR is 0 where both are, an XOR where they are equal
@@ -59,14 +59,7 @@ module _ (a b : List ℕ) (sizes : length a ≡ length b) where
       let g : length b ≤ i = omega arith in
       sym (both_true (eqb found 0)) ∙ (rw (drop_of_length-le a h, drop_of_length-le b g) at e)
 
--- the answer, and texts of other lengths
-pub none_found : (found : ℕ) → found < 256 → (256 - found) / 256 ≡ choose (eqb found 0) 1 0
-none_found found h = go (eqb found 0) refl
-  where
-    go : (p : Bool) → eqb found 0 ≡ p → (256 - found) / 256 ≡ choose p 1 0
-    go true e = omega (arith, eqb-true found 0 e)
-    go false e = omega (arith, eqb-false found 0 e)
-
+-- texts of other lengths
 both_false : (p q : Bool) → q ≡ false → both p q ≡ false
 both_false true q e = e
 both_false false q e = refl
@@ -80,7 +73,3 @@ no_sizes (x ∷ a) (y ∷ b) h = both_false (eqb x y) (same a b) (no_sizes a b (
 
 pub sizes_differ : (a b : List ℕ) → (length a ≡ length b → ⊥) → same_tag a b ≡ 0
 sizes_differ a b h = rw (no_sizes a b h)
-
-pub told : (a b : List ℕ) (found answer : ℕ) → eqb found 0 ≡ same a b → answer ≡ choose (eqb found 0) 1 0
-    → same_tag a b ≡ answer
-told a b found answer e f = cc

@@ -11,10 +11,8 @@ fn differing(a: &[u8], b: &[u8]) -> u8
     ensures { eqb result 0 ≡ same a.now b.now }
 {
     let mut found: u8 = 0;
-    let mut i = 0;
-    while i < a.len() {
+    for i in 0..a.len() {
         found = found | (a[i] ^ b[i]);
-        i += 1;
     }
     found
 }

@@ -33,8 +33,8 @@ fn gather(tail: &[u8], piece: &[u8], p: usize, z: &mut [u8])
     ensures { z.new
         ≡ take (length z.old) (drop p (tail.now ++ piece.now)) }
 {
-    for i in 0..z.len() {
-        z[i] = byte_of(tail, piece, p + i);
+    for (i, b) in z.iter_mut().enumerate() {
+        *b = byte_of(tail, piece, p + i);
     }
 }
 

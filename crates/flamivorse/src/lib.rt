@@ -18,7 +18,7 @@ use counts::{
     finish_words, hmac_words, key_words, refresh_words, short_words, split_words, start_words,
 };
 use rules::{
-    Answer, Chain, Compressed, Opened, SHA1, SHA256, Sha256Chain, Sha256Compressed, State, Streamed,
+    Algorithm, Answer, Chain, Compressed, Opened, Sha256Chain, Sha256Compressed, State, Streamed,
 };
 
 // ---- two shares
@@ -167,7 +167,7 @@ pub extern "C" fn flamivorse_split_key(
     ensures { split_key_call (sha1 32) n key.now shares.old words.now
         ≡ (result, shares.new) }
 {
-    calls::split_key(SHA1, n, key, shares, words)
+    calls::split_key(Algorithm::Sha1, n, key, shares, words).into().into()
 }
 
 // One compression of a block of 16n words in shares into a chain.
@@ -182,7 +182,7 @@ pub extern "C" fn flamivorse_sha1_compress(
         ≡ (record { number = result.number; drawn = result.drawn }, result.chain.shares) }
 {
     let mut all = chain.shares;
-    let made = calls::compress(SHA1, n, &mut all, block, words);
+    let made = Answer::from(calls::compress(Algorithm::Sha1, n, &mut all, block, words));
     Compressed {
         number: made.number,
         drawn: made.drawn,
@@ -203,7 +203,7 @@ pub extern "C" fn flamivorse_hmac_sha1(
         words.now
         ≡ (result, tag.new) }
 {
-    calls::tag(SHA1, n, key, message, tag, words)
+    calls::tag(Algorithm::Sha1, n, key, message, tag, words)
 }
 
 // The state that a message starts from, under a key in shares.
@@ -211,7 +211,7 @@ pub extern "C" fn flamivorse_hmac_sha1(
 pub extern "C" fn flamivorse_hmac_sha1_start(n: usize, key: &[u32], words: &[u32]) -> Streamed
     ensures { start_call (sha1 32) n key.now words.now ≡ result }
 {
-    calls::start(SHA1, n, key, words)
+    calls::start(Algorithm::Sha1, n, key, words)
 }
 
 // A state with one more piece of the message.
@@ -219,7 +219,7 @@ pub extern "C" fn flamivorse_hmac_sha1_start(n: usize, key: &[u32], words: &[u32
 pub extern "C" fn flamivorse_hmac_sha1_feed(state: State, piece: &[u8], words: &[u32]) -> Streamed
     ensures { feed_call (sha1 32) state piece.now words.now ≡ result }
 {
-    calls::feed(SHA1, state, piece, words)
+    calls::feed(Algorithm::Sha1, state, piece, words)
 }
 
 // The tag of what was fed to a state.
@@ -231,7 +231,7 @@ pub extern "C" fn flamivorse_hmac_sha1_finish(
 ) -> Streamed
     ensures { finish_call (sha1 32) state tag.old words.now ≡ (result, tag.new) }
 {
-    calls::finish(SHA1, state, tag, words)
+    calls::finish(Algorithm::Sha1, state, tag, words)
 }
 
 // ---- SHA-256 and HMAC
@@ -247,7 +247,7 @@ pub extern "C" fn flamivorse_sha256_split_key(
     ensures { split_key_call (sha256 32) n key.now shares.old words.now
         ≡ (result, shares.new) }
 {
-    calls::split_key(SHA256, n, key, shares, words)
+    calls::split_key(Algorithm::Sha256, n, key, shares, words).into()
 }
 
 // One compression of a block of 16n words in shares into a chain.
@@ -262,7 +262,7 @@ pub extern "C" fn flamivorse_sha256_compress(
         ≡ (record { number = result.number; drawn = result.drawn }, result.chain.shares) }
 {
     let mut all = chain.shares;
-    let made = calls::compress(SHA256, n, &mut all, block, words);
+    let made = Answer::from(calls::compress(Algorithm::Sha256, n, &mut all, block, words));
     Sha256Compressed {
         number: made.number,
         drawn: made.drawn,
@@ -283,7 +283,7 @@ pub extern "C" fn flamivorse_hmac_sha256(
         words.now
         ≡ (result, tag.new) }
 {
-    calls::tag(SHA256, n, key, message, tag, words)
+    calls::tag(Algorithm::Sha256, n, key, message, tag, words)
 }
 
 // The state that a message starts from, under a key in shares.
@@ -291,7 +291,7 @@ pub extern "C" fn flamivorse_hmac_sha256(
 pub extern "C" fn flamivorse_hmac_sha256_start(n: usize, key: &[u32], words: &[u32]) -> Streamed
     ensures { start_call (sha256 32) n key.now words.now ≡ result }
 {
-    calls::start(SHA256, n, key, words)
+    calls::start(Algorithm::Sha256, n, key, words)
 }
 
 // A state with one more piece of the message.
@@ -299,7 +299,7 @@ pub extern "C" fn flamivorse_hmac_sha256_start(n: usize, key: &[u32], words: &[u
 pub extern "C" fn flamivorse_hmac_sha256_feed(state: State, piece: &[u8], words: &[u32]) -> Streamed
     ensures { feed_call (sha256 32) state piece.now words.now ≡ result }
 {
-    calls::feed(SHA256, state, piece, words)
+    calls::feed(Algorithm::Sha256, state, piece, words)
 }
 
 // The tag of what was fed to a state.
@@ -311,7 +311,7 @@ pub extern "C" fn flamivorse_hmac_sha256_finish(
 ) -> Streamed
     ensures { finish_call (sha256 32) state tag.old words.now ≡ (result, tag.new) }
 {
-    calls::finish(SHA256, state, tag, words)
+    calls::finish(Algorithm::Sha256, state, tag, words)
 }
 
 // ---- comparing tags
@@ -330,156 +330,133 @@ pub extern "C" fn flamivorse_same_tag(a: &[u8], b: &[u8]) -> u32
 pub extern "C" fn flamivorse_split_words(n: usize) -> Answer
     ensures { split_words n ≡ result }
 {
-    split_words(n)
+    split_words(n).into()
 }
 
 #[unsafe(no_mangle)]
 pub extern "C" fn flamivorse_refresh_words(n: usize) -> Answer
     ensures { refresh_words n ≡ result }
 {
-    refresh_words(n)
+    refresh_words(n).into()
 }
 
 #[unsafe(no_mangle)]
 pub extern "C" fn flamivorse_expand_words(n: usize) -> Answer
     ensures { expand_words n ≡ result }
 {
-    expand_words(n)
+    expand_words(n).into()
 }
 
 #[unsafe(no_mangle)]
 pub extern "C" fn flamivorse_and_words(n: usize) -> Answer
     ensures { and_words n ≡ result }
 {
-    and_words(n)
+    and_words(n).into()
 }
 
 #[unsafe(no_mangle)]
 pub extern "C" fn flamivorse_add_words(n: usize) -> Answer
     ensures { add_words 32 n ≡ result }
 {
-    add_words(n)
+    add_words(n).into()
 }
 
 #[unsafe(no_mangle)]
 pub extern "C" fn flamivorse_a2b_words(n: usize) -> Answer
     ensures { a2b_words 32 n ≡ result }
 {
-    a2b_words(n)
+    a2b_words(n).into()
 }
 
 #[unsafe(no_mangle)]
 pub extern "C" fn flamivorse_b2a_words(n: usize) -> Answer
     ensures { b2a_words 32 n ≡ result }
 {
-    b2a_words(n)
+    b2a_words(n).into()
 }
 
 #[unsafe(no_mangle)]
 pub extern "C" fn flamivorse_b2a_short_words(n: usize) -> Answer
     ensures { b2a_short_words n ≡ result }
 {
-    short_words(n)
+    short_words(n).into()
 }
 
 #[unsafe(no_mangle)]
 pub extern "C" fn flamivorse_split_key_words(n: usize, length: usize) -> Answer
     ensures { split_key_words (sha1 32) n length ≡ result }
 {
-    key_words(SHA1, n, length)
+    key_words(Algorithm::Sha1, n, length).into()
 }
 
 #[unsafe(no_mangle)]
 pub extern "C" fn flamivorse_sha1_compress_words(n: usize) -> Answer
     ensures { compress_words (sha1 32) n ≡ result }
 {
-    compress_words(SHA1, n)
+    compress_words(Algorithm::Sha1, n).into()
 }
 
 #[unsafe(no_mangle)]
 pub extern "C" fn flamivorse_hmac_sha1_words(n: usize, length: usize) -> Answer
     ensures { hmac_words (sha1 32) n length ≡ result }
 {
-    hmac_words(SHA1, n, length)
+    hmac_words(Algorithm::Sha1, n, length).into()
 }
 
 #[unsafe(no_mangle)]
 pub extern "C" fn flamivorse_hmac_sha1_start_words(n: usize) -> Answer
     ensures { start_words (sha1 32) n ≡ result }
 {
-    start_words(SHA1, n)
+    start_words(Algorithm::Sha1, n).into()
 }
 
 #[unsafe(no_mangle)]
 pub extern "C" fn flamivorse_hmac_sha1_feed_words(state: State, length: usize) -> Answer
     ensures { feed_words (sha1 32) state length ≡ result }
 {
-    feed_words(
-        SHA1,
-        state.n,
-        state.bytes,
-        state.drawn,
-        state.finished,
-        state.hash,
-        length,
-    )
+    feed_words(Algorithm::Sha1, &state, length).into()
 }
 
 #[unsafe(no_mangle)]
 pub extern "C" fn flamivorse_hmac_sha1_finish_words(state: State) -> Answer
     ensures { finish_words (sha1 32) state ≡ result }
 {
-    finish_words(
-        SHA1,
-        state.n,
-        state.bytes,
-        state.drawn,
-        state.finished,
-        state.hash,
-    )
+    finish_words(Algorithm::Sha1, &state).into()
 }
 
 #[unsafe(no_mangle)]
 pub extern "C" fn flamivorse_sha256_split_key_words(n: usize, length: usize) -> Answer
     ensures { split_key_words (sha256 32) n length ≡ result }
 {
-    key_words(SHA256, n, length)
+    key_words(Algorithm::Sha256, n, length).into()
 }
 
 #[unsafe(no_mangle)]
 pub extern "C" fn flamivorse_sha256_compress_words(n: usize) -> Answer
     ensures { compress_words (sha256 32) n ≡ result }
 {
-    compress_words(SHA256, n)
+    compress_words(Algorithm::Sha256, n).into()
 }
 
 #[unsafe(no_mangle)]
 pub extern "C" fn flamivorse_hmac_sha256_words(n: usize, length: usize) -> Answer
     ensures { hmac_words (sha256 32) n length ≡ result }
 {
-    hmac_words(SHA256, n, length)
+    hmac_words(Algorithm::Sha256, n, length).into()
 }
 
 #[unsafe(no_mangle)]
 pub extern "C" fn flamivorse_hmac_sha256_start_words(n: usize) -> Answer
     ensures { start_words (sha256 32) n ≡ result }
 {
-    start_words(SHA256, n)
+    start_words(Algorithm::Sha256, n).into()
 }
 
 #[unsafe(no_mangle)]
 pub extern "C" fn flamivorse_hmac_sha256_feed_words(state: State, length: usize) -> Answer
     ensures { feed_words (sha256 32) state length ≡ result }
 {
-    feed_words(
-        SHA256,
-        state.n,
-        state.bytes,
-        state.drawn,
-        state.finished,
-        state.hash,
-        length,
-    )
+    feed_words(Algorithm::Sha256, &state, length).into()
 }
 
 #[unsafe(no_mangle)]
@@ -487,11 +464,11 @@ pub extern "C" fn flamivorse_hmac_sha256_finish_words(state: State) -> Answer
     ensures { finish_words (sha256 32) state ≡ result }
 {
     finish_words(
-        SHA256,
+        Algorithm::Sha256,
         state.n,
         state.bytes,
         state.drawn,
         state.finished,
         state.hash,
-    )
+    ).into()
 }

@@ -1,5 +1,5 @@
 -- A key's words in shares: the last shares that are kept, and words and blocks from them.
-use Prim.Native.Nat.{ℕ, zero, suc, ◌+◌, ◌-◌, ◌*◌, ◌^◌, ◌≤◌, ◌<◌}
+use Prim.Native.Nat.{ℕ, zero, suc, ◌+◌, ◌-◌, ◌*◌, ◌≤◌, ◌<◌}
 use mathlib.Core.Path.{◌≡◌, refl, sym, ap, ap₂, ◌∙◌}
 use mathlib.Core.List.{List, [], ◌∷◌, ◌++◌}
 use native.Mathlib.Numerals.{add-one}
@@ -7,37 +7,23 @@ use native.Mathlib.Omega.{arith}
 use native.Mathlib.Nat.{zero-add, add-zero, add-mul, suc-add, suc-mul, zero-mul, mul_comm, mul_assoc, mul-le-mul_right}
 use native.Mathlib.Nat.{sub-zero}
 use lib.Bits.{bit_xor}
-use lib.ListN.{length, get_or, set, take, drop, replicate, length-append, length-drop, length-replicate}
-use lib.Seq.{drop-cons, take_at, take_all, take-take, take-add, drop-drop, take-append-le, drop-append-le}
+use lib.ListN.{length, get_or, set, take, drop, replicate, length-append, length-drop}
+use lib.Seq.{drop-cons, take_at, take-take, take-add, drop-drop, take-append-le, drop-append-le}
 use lib.Seq.{drop-append-add}
 use lib.Seq.{take-nil}
-use mir.Syntax.{w64}
-use mir.Val.{Fits}
 use Rattle.words.proofs.Stores.{filled_next, filled_end, set_last, lent_zeros, zeros_after}
-use Rattle.rules.specs.Numbers.{largest}
 use Rattle.rules.specs.Supply.{next, opened, split}
 use Rattle.rules.specs.Hash.{Hash, number_of, filled}
 use Rattle.rules.specs.Standard.{SHA1}
 use Rattle.rules.specs.Sha1.{word}
 use Rattle.rules.specs.Hmac.{splits, key_words}
-use Rattle.rules.proofs.Loops.{Run}
 use Rattle.rules.proofs.Rule.{next_rule}
 use Rattle.rules.proofs.Bytes.{length_words}
-use Rattle.hash.proofs.Blocks.{block_room}
 use Rattle.key_words.specs.Held.{last_shares, held}
 use Rattle.key_words.proofs.Words.{word_is}
 
 abbrev H : Hash
 H = SHA1 32
-
--- ---- the mask of one word: what was drawn for it, opened
-pub mask_made : (n at p r : ℕ) (ws m : List ℕ) → n ≤ largest
-    → next (length {A = ℕ} (take (n - 1 - 0) (replicate largest 0))) ws at ≡ (m, p) → r ≡ opened m
-    → r ≡ opened (next (n - 1) ws at).0
-mask_made n at p r ws m few e f =
-    let lent : length {A = ℕ} (take (n - 1 - 0) (replicate largest 0)) ≡ n - 1 =
-    ap length (lent_zeros largest (n - 1) (omega arith)) ∙ length-replicate {A = ℕ} (n - 1) 0 in
-    f ∙ ap (λ (r : Run). opened r.0) (sym (rw lent at e))
 
 -- ---- the last shares, one after the other
 module _ (n : ℕ) (ws : List ℕ) where
@@ -73,11 +59,6 @@ module _ (n : ℕ) (ws : List ℕ) where
     pub lasts_end : length z ≤ w → take w z ≡ take w all → z ≡ all
     lasts_end h p = filled_end z all w (omega (arith, as_many)) (room ∙ sym as_many) p
 
-pub lasts_fits : (w d at p count m have : ℕ) → count ≡ m → w < count → p ≡ at + w * d → at + m * d ≤ have
-    → have * 4 < 2 ^ 63 → Fits w64 (p + d)
-lasts_fits w d at p count m have same h e room b =
-    record { fits = omega (arith, block_room w d at p count m same have h e room) }
-
 -- ---- a word in shares: those of the supply, and the last one
 next_part : (ws : List ℕ) (m at : ℕ) → at + m ≤ length ws → (next m ws at).0 ≡ take m (drop at ws)
 unfolding next
@@ -95,17 +76,6 @@ share_made last at z ws d some room e =
     let q : at + m - at ≡ m = omega arith in
     let is : d ≡ (next m ws at).0 = e ∙ rw q (sym (next_part ws m at room)) in
     rw (sub-zero m, is) (set_last (next m ws at).0 z last m ((next_rule m).makes ws at) (omega arith))
-
--- where word i of so many stands
-module _ (i l d at have : ℕ) (h : i < l) (room : at + l * d ≤ have) where
-  pub index_fits : have * 4 < 2 ^ 63 → Fits w64 (i * d)
-  index_fits b = record { fits = omega (arith, mul-le-mul_right d h, suc-mul i d) }
-
-  pub place_fits : have * 4 < 2 ^ 63 → Fits w64 (at + i * d)
-  place_fits b = record { fits = omega (arith, mul-le-mul_right d h, suc-mul i d) }
-
-  pub index_room : (m n : ℕ) → d ≡ n - 1 → m ≡ n → at + i * d + (m - 1) ≤ have
-  index_room m n e f = rw (f, ← e) (omega (arith, mul-le-mul_right d h, suc-mul i d))
 
 -- ---- zeros after words: a part of so much is the same with more of them
 pub part_same : (d m room : ℕ) (s : List ℕ) → d + m ≤ room
@@ -209,9 +179,6 @@ module _ (n : ℕ) (lasts ws : List ℕ) (at j : ℕ) where
   abbrev block : List ℕ
   block = take (16 * n) (drop (j * (16 * n)) whole)
 
-  pub block_begins : (z : List ℕ) → take (0 * n) z ≡ take (0 * n) block
-  block_begins z = rw (zero-mul n)
-
   pub block_next : (w : ℕ) (z y : List ℕ) → w < 16
       → (let i = 16 * j + w in
       take (w * n + n) y ≡ take (w * n) z ++ word n i (filled (i * n + n) (held n lasts ws at)))
@@ -231,13 +198,6 @@ module _ (n : ℕ) (lasts ws : List ℕ) (at j : ℕ) where
       rw more
       (e ∙ ap₂ (λ (a b : List ℕ). a ++ b) front same
       ∙ sym (take-take (w * n + n) (16 * n) rest fits ∙ take-add (w * n) n rest))
-
-  pub block_end : (w : ℕ) (z : List ℕ) → 16 ≤ w → w ≤ 16 → length z ≡ 16 * n → take (w * n) z ≡ take (w * n) block
-      → z ≡ block
-  block_end w z h l e p =
-      let all : w ≡ 16 = omega arith in
-      sym (take_all (16 * n) z (omega arith)) ∙ rw all at p
-      ∙ take-take (16 * n) (16 * n) (drop (j * (16 * n)) whole) (omega arith)
 
 -- ---- the words in shares are those of the rule
 pub splits_held : (n : ℕ) (ws vs : List ℕ) (at : ℕ)

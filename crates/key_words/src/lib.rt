@@ -11,8 +11,6 @@ ghost use Rattle.rules.specs.Hmac.{key_words};
 ghost use Rattle.rules.specs.Standard.{SHA1};
 ghost use Rattle.key_words.specs.Held.{last_shares, held};
 
-use masked_words::clear;
-use padding::joined;
 use rules::{BLOCK_WORDS, LARGEST, WORD_BYTES};
 
 // ---- words
@@ -33,12 +31,12 @@ fn key_word(key: &[u8], i: usize) -> u32
     ensures { result ≡ number_of 4 (drop (4 * i) key.now) }
 {
     let p = WORD_BYTES * i;
-    joined(
+    u32::from_be_bytes([
         key_byte(key, p),
         key_byte(key, p + 1),
         key_byte(key, p + 2),
         key_byte(key, p + 3),
-    )
+    ])
 }
 
 // ---- split, and of each the last share kept
@@ -64,12 +62,10 @@ pub fn last_shares(n: usize, key: &[u8], z: &mut [u32], words: &[u32], at: usize
         × (result ≡ at + length z.old * (n - 1)) }
 {
     let mut p = at;
-    let mut w = 0;
-    while w < z.len() {
+    for (w, last) in z.iter_mut().enumerate() {
         let mask = mask_at(n, words, p);
-        z[w] = key_word(key, w) ^ mask;
+        *last = key_word(key, w) ^ mask;
         p += n - 1;
-        w += 1;
     }
     p
 }
@@ -97,7 +93,7 @@ fn held_word(n: usize, lasts: &[u32], i: usize, z: &mut [u32], words: &[u32], at
         ≡ word n i (filled (i * n + n) (held n lasts.now words.now at)) }
 {
     if lasts.len() <= i {
-        clear(z);
+        z.fill(0);
         return;
     }
     share_word(lasts[i], z, words, at + i * (n - 1));
@@ -122,9 +118,7 @@ pub fn held_block(n: usize, lasts: &[u32], j: usize, z: &mut [u32], words: &[u32
     ensures { z.new ≡ take (16 * n) (drop (j * (16 * n))
         (filled (j * (16 * n) + 16 * n) (held n lasts.now words.now at))) }
 {
-    let mut w: usize = 0;
-    while w < BLOCK_WORDS {
+    for w in 0..BLOCK_WORDS {
         put_word(n, w, lasts, BLOCK_WORDS * j + w, z, words, at);
-        w += 1;
     }
 }

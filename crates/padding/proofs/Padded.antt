@@ -1,17 +1,19 @@
 -- The bytes and words of a text with its padding, by place.
-use Prim.Native.Nat.{ℕ, zero, suc, ◌+◌, ◌-◌, ◌*◌, ◌/◌, ◌%◌, ◌^◌, ◌≤◌, ◌<◌}
+use Prim.Native.Nat.{ℕ, zero, suc, ◌+◌, ◌-◌, ◌*◌, ◌/◌, ◌%◌, ◌≤◌, ◌<◌}
 use mathlib.Core.Path.{◌≡◌, refl, sym, ap, ap₂, ◌∙◌}
-use mathlib.Core.List.{List, ◌++◌, append_assoc}
+use mathlib.Core.List.{List, [], ◌∷◌, ◌++◌, append_assoc}
 use native.Mathlib.Nat.{zero-add}
 use native.Mathlib.Omega.{arith}
+use borrow.Author.Rules.{rules}
 use lib.ListN.{length, get_or, set, take, drop, replicate, length-drop, length-replicate, get_or-append}
 use lib.ListN.{replicate-append-replicate}
 use lib.Seq.{get_or-append-add, get_or-take, get_or-drop, length-take-le, take_at, drop_at, drop-append-add}
-use Rattle.words.proofs.Stores.{filled_next, filled_end, lent_zeros}
+use Rattle.std.specs.Int.{w32, w64, to_be_bytes, from_be_bytes}
+use Rattle.words.proofs.Stores.{filled_next, lent_zeros}
 use Rattle.rules.specs.Hash.{Hash, bytes_of, number_of, words_of, zeros, padding, ended, ending}
 use Rattle.rules.specs.Standard.{SHA1}
 use Rattle.rules.specs.Counts.{standard_of}
-use Rattle.rules.proofs.Bytes.{pow_bytes, byte_of, words_alike, number_zeros}
+use Rattle.rules.proofs.Bytes.{words_alike, number_zeros}
 use Rattle.rules.proofs.Hashes.{ended_length, ending_length, ending_front}
 use Rattle.rules.proofs.Tags.{hash_proper}
 use Rattle.padding.specs.Whole.{blocks_in}
@@ -24,8 +26,9 @@ pub any_ending : (code before : ℕ) (text : List ℕ) → ending H before text 
 unfolding ending ended padding zeros
 any_ending code before text = refl
 
-pub count_made : (count j : ℕ) → count / 2 ^ (8 * j) % 256 ≡ count / 256 ^ j % 256
-count_made count j = rw (pow_bytes j)
+bytes_are : (v : ℕ) → to_be_bytes w64 v ≡ bytes_of 8 v
+unfolding bytes_of
+bytes_are v = search rules
 
 -- ---- byte i of a text after whole blocks
 module _ (before : ℕ) (text : List ℕ) (i : ℕ) where
@@ -66,19 +69,15 @@ module _ (before : ℕ) (text : List ℕ) (i : ℕ) where
       zero_at (suc z) zero s h = refl
       zero_at (suc z) (suc d) s h = zero_at z d s (omega arith)
 
-  pub count_case : before % 64 ≡ 0 → (count v : ℕ) → count ≡ blocks_in L → L ≤ i → (i ≡ L → ⊥)
-      → count * 64 ≤ i + 8 → i < blocks_in L * 64 → v ≡ (before + L) * 8 / 256 ^ (count * 64 - 1 - i) % 256
-      → v ≡ get_or (ended H before text) i 0
-  count_case h count v e l k m n g =
-      let j = count * 64 - 1 - i in
-      let z = zeros H (before + L) in
-      let p = 7 - j in
-      let bits = (before + L) * 8 in
-      let place : i ≡ L + suc (length {A = ℕ} (replicate z 0) + p) =
-      omega (arith, length-replicate {A = ℕ} z 0, whole h) in
-      g ∙ sym (after (length {A = ℕ} (replicate z 0) + p) place
-      ∙ get_or-append-add (replicate z 0) (bytes_of 8 bits) p 0
-      ∙ byte_of 8 bits p j (omega arith))
+  pub count_case : before % 64 ≡ 0 → (count : ℕ) (v : List ℕ) → count ≡ blocks_in L → L ≤ i → (i ≡ L → ⊥)
+      → count * 64 ≤ i + 8 → v ≡ to_be_bytes w64 ((before + L) * 8)
+      → get_or v (i + 8 - count * 64) 0 ≡ get_or (ended H before text) i 0
+  count_case h count v e l k m f =
+      let z : List ℕ = replicate (zeros H (before + L)) 0 in
+      let p = i + 8 - count * 64 in
+      let place : i ≡ L + suc (length z + p) =
+      omega (arith, length-replicate {A = ℕ} (zeros H (before + L)) 0, whole h) in
+      rw (f, bytes_are) (sym (after (length z + p) place ∙ get_or-append-add z (bytes_of 8 ((before + L) * 8)) p 0))
 
 -- ---- word i of bytes
 pub word_of : (m : ℕ) (bs : List ℕ) (i : ℕ) → i < m
@@ -107,8 +106,8 @@ word_of (suc m) bs (suc i) h =
 
 pub word_made : (m : ℕ) (bs : List ℕ) (i : ℕ) {a b c d r : ℕ} → i < m
     → a ≡ get_or bs (4 * i) 0 → b ≡ get_or bs (4 * i + 1) 0 → c ≡ get_or bs (4 * i + 2) 0 → d ≡ get_or bs (4 * i + 3) 0
-    → r ≡ ((a * 256 + b) * 256 + c) * 256 + d → r ≡ get_or (words_of 4 m bs) i 0
-word_made m bs i h ea eb ec ed er = er ∙ rw (ea, eb, ec, ed) (sym (word_of m bs i h))
+    → r ≡ from_be_bytes w32 (a ∷ b ∷ c ∷ d ∷ []) → r ≡ get_or (words_of 4 m bs) i 0
+word_made m bs i h ea eb ec ed er = omega (arith, word_of m bs i h)
 
 -- ---- the words of a text
 module _ (before : ℕ) (text : List ℕ) (aligned : before % 64 ≡ 0) where
@@ -121,7 +120,7 @@ module _ (before : ℕ) (text : List ℕ) (aligned : before % 64 ≡ 0) where
   pub text_word : (i : ℕ) {a b c d r : ℕ} → i < blocks_in (length text) * 16
       → a ≡ get_or (ended H before text) (4 * i) 0 → b ≡ get_or (ended H before text) (4 * i + 1) 0
       → c ≡ get_or (ended H before text) (4 * i + 2) 0 → d ≡ get_or (ended H before text) (4 * i + 3) 0
-      → r ≡ ((a * 256 + b) * 256 + c) * 256 + d → r ≡ get_or (ending H before text) i 0
+      → r ≡ from_be_bytes w32 (a ∷ b ∷ c ∷ d ∷ []) → r ≡ get_or (ending H before text) i 0
   unfolding ending
   text_word i h = word_made (length (ended H before text) / 4) (ended H before text) i (omega (arith, length_ended))
 
@@ -135,15 +134,12 @@ module _ (before : ℕ) (text : List ℕ) (aligned : before % 64 ≡ 0) where
         let W = ending H before text in
         length-take-le 16 (drop (16 * j) W) (rw (length-drop (16 * j) W) (omega (arith, length_ending)))
 
-    pub block_next : (v : ℕ) → w < length z → v ≡ get_or (ending H before text) (16 * j + w) 0 → take w z ≡ take w block
+    pub block_next : (v : ℕ) → w < 16 → v ≡ get_or (ending H before text) (16 * j + w) 0 → take w z ≡ take w block
         → take (w + 1) (set z w v) ≡ take (w + 1) block
     block_next v h e p =
         filled_next z block w v (omega arith) (room ∙ sym length_block)
         (e ∙ sym (get_or-take 16 (drop (16 * j) (ending H before text)) w 0 (omega arith)
         ∙ get_or-drop (16 * j) (ending H before text) w 0)) p
-
-    pub block_end : length z ≤ w → take w z ≡ take w block → z ≡ block
-    block_end h p = filled_end z block w (omega (arith, length_block)) (room ∙ sym length_block) p
 
 -- ---- the padding after l bytes that are 0: whole blocks of zeros, then the rest
 module _ (l j : ℕ) where

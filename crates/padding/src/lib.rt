@@ -17,14 +17,6 @@ pub fn blocks_in(length: usize) -> usize
     (length + LENGTH_BYTES) / BLOCK_BYTES + 1
 }
 
-// Byte j of a count, from its low end.
-fn count_byte(count: usize, j: usize) -> u8
-    requires { j < 8 }
-    ensures { result ≡ count / 256 ^ j % 256 }
-{
-    ((count >> (8 * j)) % 256) as u8
-}
-
 // Byte i of the text with its padding.
 fn byte_at(before: usize, text: &[u8], i: usize) -> u8
     requires { (before % 64 ≡ 0) × Hashable (before + length text.now) × (i < blocks_in (length text.now) * 64) }
@@ -41,14 +33,7 @@ fn byte_at(before: usize, text: &[u8], i: usize) -> u8
     if i + LENGTH_BYTES < end {
         return 0;
     }
-    count_byte((before + l) * 8, end - 1 - i)
-}
-
-// Four bytes as a word, the first highest.
-pub fn joined(a: u8, b: u8, c: u8, d: u8) -> u32
-    ensures { result ≡ ((a * 256 + b) * 256 + c) * 256 + d }
-{
-    ((a as u32 * 256 + b as u32) * 256 + c as u32) * 256 + d as u32
+    ((before + l) * 8).to_be_bytes()[i + LENGTH_BYTES - end]
 }
 
 // Word i of the text with its padding.
@@ -57,12 +42,12 @@ fn word_at(before: usize, text: &[u8], i: usize) -> u32
     ensures { result ≡ get_or (ending (SHA1 32) before text.now) i 0 }
 {
     let p = WORD_BYTES * i;
-    joined(
+    u32::from_be_bytes([
         byte_at(before, text, p),
         byte_at(before, text, p + 1),
         byte_at(before, text, p + 2),
         byte_at(before, text, p + 3),
-    )
+    ])
 }
 
 // Block j of the text with its padding, as 16 words.
@@ -71,10 +56,8 @@ pub fn block_words(before: usize, text: &[u8], j: usize, z: &mut [u32])
         × (length z.old ≡ 16) }
     ensures { z.new ≡ take 16 (drop (16 * j) (ending (SHA1 32) before text.now)) }
 {
-    let mut w = 0;
-    while w < z.len() {
-        z[w] = word_at(before, text, BLOCK_WORDS * j + w);
-        w += 1;
+    for (w, v) in z.iter_mut().enumerate() {
+        *v = word_at(before, text, BLOCK_WORDS * j + w);
     }
 }
 
@@ -85,7 +68,7 @@ pub fn padding_words(bytes: usize, j: usize, z: &mut [u32])
 {
     let full = bytes / BLOCK_BYTES;
     if j < full {
-        masked_words::clear(z);
+        z.fill(0);
         return;
     }
     let left = bytes % BLOCK_BYTES;

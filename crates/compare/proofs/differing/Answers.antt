@@ -1,13 +1,8 @@
-use borrow.Author.Rules.{rules}
-use mathlib.Core.Path.{refl}
 use Rattle.compare.proofs.Found.{found_next, found_end}
 use Rattle.compare.proofs.differing.Goals as goal
 
-pub loop-i-init : goal.loop-i-init
-loop-i-init c = (search rules, refl)
-
 pub loop-i-preserved : goal.loop-i-preserved
-loop-i-preserved c = (search rules, search found_next)
+loop-i-preserved c = search found_next
 
 pub returns : goal.returns
 returns c = search found_end

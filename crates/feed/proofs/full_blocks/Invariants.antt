@@ -14,6 +14,6 @@ invariant-loop-j l =
     let H = standard l.algorithm in
     let text = l.tail ++ l.piece in
     let m = (length l.tail + length l.piece) / 64 in
-    (length l.block ≡ 16 * l.n) × (l.count ≡ m) × (l.p ≡ l.at + l.j * M.draws l.n)
+    (l.p ≡ l.at + l.j * M.draws l.n)
     × (full_blocks M l.n (l.count - l.j) (drop (64 * l.j) text) (used H l.n l.c.shares) l.words l.p
     ≡ full_blocks M l.n m text (used H l.n l.initial.c.shares) l.words l.at)

@@ -1,10 +1,9 @@
 -- the constants that are left, from here on, give what all of them give from the start
-use Prim.Native.Nat.{◌*◌}
 use mathlib.Core.Path.{◌≡◌}
-use lib.ListN.{length, drop}
+use lib.ListN.{drop}
 use Rattle.hash.proofs.Publics.{marking}
 use Rattle.hash.proofs.mark.Given as goal
 
 abbrev pub invariant-loop-w : goal.invariant-loop-w
 invariant-loop-w l =
-    (length l.z ≡ length l.values * l.n) × (marking l.n (drop l.w l.values) l.w l.z ≡ marking l.n l.values 0 l.initial.z)
+    marking l.n (drop l.w l.values) l.w l.z ≡ marking l.n l.values 0 l.initial.z

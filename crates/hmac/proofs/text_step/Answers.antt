@@ -4,7 +4,7 @@ use Rattle.hmac.proofs.Steps.{text_next}
 use Rattle.hmac.proofs.text_step.Goals as goal
 
 pub loop-j-preserved : goal.loop-j-preserved
-loop-j-preserved c = (search rules, search rules, search rules, search text_next)
+loop-j-preserved c = (search rules, search text_next)
 
 pub returns : goal.returns
 returns c = (search blocks_end, search block_place)

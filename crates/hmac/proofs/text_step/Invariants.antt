@@ -16,6 +16,6 @@ invariant-loop-j l =
     let H = standard l.algorithm in
     let W = publics l.n (ending H l.before l.text) in
     let m = blocks_in (length l.text) in
-    (length l.block ≡ 16 * l.n) × (l.count ≡ m) × (l.p ≡ l.at + l.j * M.draws l.n)
+    (l.p ≡ l.at + l.j * M.draws l.n)
     × (Left l.algorithm l.n l.words W l.count l.j (used H l.n l.c.shares) l.p
     ≡ blocks M l.n m W (used H l.n l.initial.c.shares) l.words l.at)

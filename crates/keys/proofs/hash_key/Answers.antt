@@ -6,7 +6,7 @@ pub compress-next-requires : goal.compress-next-requires
 compress-next-requires c = (search rules, search rules, search rules, search block_room)
 
 pub loop-j-preserved : goal.loop-j-preserved
-loop-j-preserved c = (search rules, search rules, search rules, search blocks_next)
+loop-j-preserved c = (search rules, search blocks_next)
 
 pub returns : goal.returns
 returns c = search blocks_end

@@ -1,7 +1,6 @@
 -- the blocks that are left, from here on, give what all of them give from the start
 use Prim.Native.Nat.{◌+◌, ◌*◌}
 use mathlib.Core.Path.{◌≡◌}
-use lib.ListN.{length}
 use Rattle.rules.specs.Sha1.{publics}
 use Rattle.rules.specs.Hmac.{used, blocks}
 use Rattle.hash.specs.Hash.{hash, standard}
@@ -17,6 +16,6 @@ invariant-loop-j l =
     let H = standard l.algorithm in
     let W = padded l.n l.bytes (held l.n l.lasts l.words l.at) in
     let m = blocks_in l.bytes in
-    (length l.block ≡ 16 * l.n) × (l.count ≡ m) × (l.q ≡ l.p + l.j * M.draws l.n)
+    (l.q ≡ l.p + l.j * M.draws l.n)
     × (Left l.algorithm l.n l.words W l.count l.j (used H l.n l.c.shares) l.q
     ≡ blocks M l.n m W (publics l.n H.start) l.words l.p)
