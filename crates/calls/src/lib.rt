@@ -134,7 +134,10 @@ pub fn feed(algorithm: Algorithm, state: State, piece: &[u8], words: &[u32]) -> 
 {
     let mut next = state;
     let outcome = fed(algorithm, &mut next, piece, words);
-    streamed(outcome, next)
+    let Ok(drawn) = outcome else {
+        return streamed(outcome, state);
+    };
+    streamed(Ok(drawn), next)
 }
 
 // The tag of what was fed to a state, which is closed then; a refusal leaves it as it was.

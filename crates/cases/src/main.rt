@@ -8,8 +8,8 @@ ghost use Rattle.std.specs.Prelude.{◌≤◌, IfSome};
 
 use lines::{Complaint, Fault};
 use rules::{
-    Algorithm, BLOCK_WORDS, CHAIN_WORDS, LONGEST_KEY, LONGEST_MESSAGE, Refusal,
-    SHA256_CHAIN_WORDS, WORD_BYTES,
+    Algorithm, BLOCK_WORDS, CHAIN_WORDS, LONGEST_KEY, LONGEST_MESSAGE, Refusal, SHA256_CHAIN_WORDS,
+    WORD_BYTES,
 };
 use std::fs::File;
 use std::io::Read;
@@ -36,7 +36,7 @@ struct Tally {
     right: u64,
 }
 
-// The tag of the data under the key by a hash, at one share; whether both calls were done.
+// The tag of the data under the key by a hash, at one share.
 fn make_tag(
     algorithm: Algorithm,
     key: &[u8],
@@ -88,7 +88,7 @@ fn run_case(text: &[u8]) -> Result<bool, Complaint> {
     let data = read_field(text, 2, b"data", &mut data)?;
     let mut digest = [0; SHA256_TAG];
     let digest = read_field(text, 3, b"digest", &mut digest)?;
-    let Some((hash, whole)) = hash_of(digest.len()) else {
+    let Some((algorithm, whole)) = hash_of(digest.len()) else {
         return Err(Complaint::Field {
             name: b"digest",
             fault: Fault::TooShort,
@@ -99,7 +99,7 @@ fn run_case(text: &[u8]) -> Result<bool, Complaint> {
         return Err(Complaint::Line(b"more than four fields"));
     }
     let mut tag = [0; SHA256_TAG];
-    if !make_tag(hash, key, data, &mut tag[..whole]) {
+    if make_tag(algorithm, key, data, &mut tag[..whole]).is_err() {
         return Err(Complaint::Line(b"the library refuses the case"));
     }
     let tag = &tag[..digest.len()];

@@ -17,6 +17,7 @@ use counts::{
     a2b_words, add_words, and_words, b2a_words, compress_words, expand_words, feed_words,
     finish_words, hmac_words, key_words, refresh_words, short_words, split_words, start_words,
 };
+use numbers::number;
 use rules::{
     Algorithm, Answer, Chain, Compressed, Opened, Sha256Chain, Sha256Compressed, State, Streamed,
 };
@@ -44,7 +45,7 @@ pub extern "C" fn flamivorse_a2b_2(a: u32, r: u32, g: u32) -> u32
 pub extern "C" fn flamivorse_b2a_2_record(x1: u32, r: u32, g: u32, entries: &mut [u32]) -> u32
     ensures { b2a_record_call 32 x1 r g entries.old ≡ (result, entries.new) }
 {
-    goubin::b2a_record(x1, r, g, entries)
+    number(goubin::b2a_record(x1, r, g, entries))
 }
 
 // Arithmetic to Boolean with its 165 steps written down; the last is the answer.
@@ -52,7 +53,7 @@ pub extern "C" fn flamivorse_b2a_2_record(x1: u32, r: u32, g: u32, entries: &mut
 pub extern "C" fn flamivorse_a2b_2_record(a: u32, r: u32, g: u32, entries: &mut [u32]) -> u32
     ensures { a2b_record_call 32 a r g entries.old ≡ (result, entries.new) }
 {
-    goubin::a2b_record(a, r, g, entries)
+    number(goubin::a2b_record(a, r, g, entries))
 }
 
 // ---- n shares
@@ -67,7 +68,7 @@ pub extern "C" fn flamivorse_split(
 ) -> Answer
     ensures { split_call n value shares.old words.now ≡ (result, shares.new) }
 {
-    share_calls::split(n, value, shares, words)
+    share_calls::split(n, value, shares, words).into()
 }
 
 // The XOR of n shares.
@@ -75,7 +76,7 @@ pub extern "C" fn flamivorse_split(
 pub extern "C" fn flamivorse_open_xor(n: usize, shares: &[u32]) -> Opened
     ensures { open_xor_call n shares.now ≡ result }
 {
-    share_calls::open_xor(n, shares)
+    share_calls::open_xor(n, shares).into()
 }
 
 // The sum of n shares modulo 2^32.
@@ -83,7 +84,7 @@ pub extern "C" fn flamivorse_open_xor(n: usize, shares: &[u32]) -> Opened
 pub extern "C" fn flamivorse_open_sum(n: usize, shares: &[u32]) -> Opened
     ensures { open_sum_call 32 n shares.now ≡ result }
 {
-    share_calls::open_sum(n, shares)
+    share_calls::open_sum(n, shares).into()
 }
 
 // Fresh shares y of what x opens to.
@@ -91,7 +92,7 @@ pub extern "C" fn flamivorse_open_sum(n: usize, shares: &[u32]) -> Opened
 pub extern "C" fn flamivorse_refresh(n: usize, x: &[u32], y: &mut [u32], words: &[u32]) -> Answer
     ensures { refresh_call n x.now y.old words.now ≡ (result, y.new) }
 {
-    share_calls::refresh(n, x, y, words)
+    share_calls::refresh(n, x, y, words).into()
 }
 
 // 2n shares y of what the n shares x open to.
@@ -99,7 +100,7 @@ pub extern "C" fn flamivorse_refresh(n: usize, x: &[u32], y: &mut [u32], words: 
 pub extern "C" fn flamivorse_expand(n: usize, x: &[u32], y: &mut [u32], words: &[u32]) -> Answer
     ensures { expand_call n x.now y.old words.now ≡ (result, y.new) }
 {
-    share_calls::expand(n, x, y, words)
+    share_calls::expand(n, x, y, words).into()
 }
 
 // Shares z of x AND y.
@@ -113,7 +114,7 @@ pub extern "C" fn flamivorse_and(
 ) -> Answer
     ensures { and_call n x.now y.now z.old words.now ≡ (result, z.new) }
 {
-    share_calls::and(n, x, y, z, words)
+    share_calls::and(n, x, y, z, words).into()
 }
 
 // Shares z of x + y modulo 2^32.
@@ -127,7 +128,7 @@ pub extern "C" fn flamivorse_add(
 ) -> Answer
     ensures { add_call 32 n x.now y.now z.old words.now ≡ (result, z.new) }
 {
-    share_calls::add(n, x, y, z, words)
+    share_calls::add(n, x, y, z, words).into()
 }
 
 // Boolean shares x of what the arithmetic shares a add up to.
@@ -135,7 +136,7 @@ pub extern "C" fn flamivorse_add(
 pub extern "C" fn flamivorse_a2b(n: usize, a: &[u32], x: &mut [u32], words: &[u32]) -> Answer
     ensures { a2b_call 32 n a.now x.old words.now ≡ (result, x.new) }
 {
-    share_calls::a2b(n, a, x, words)
+    share_calls::a2b(n, a, x, words).into()
 }
 
 // Arithmetic shares a of what the Boolean shares x open to.
@@ -143,7 +144,7 @@ pub extern "C" fn flamivorse_a2b(n: usize, a: &[u32], x: &mut [u32], words: &[u3
 pub extern "C" fn flamivorse_b2a(n: usize, x: &[u32], a: &mut [u32], words: &[u32]) -> Answer
     ensures { b2a_call 32 n x.now a.old words.now ≡ (result, a.new) }
 {
-    share_calls::b2a(n, x, a, words)
+    share_calls::b2a(n, x, a, words).into()
 }
 
 // The same by the short conversion, which draws fewer words.
@@ -151,7 +152,7 @@ pub extern "C" fn flamivorse_b2a(n: usize, x: &[u32], a: &mut [u32], words: &[u3
 pub extern "C" fn flamivorse_b2a_short(n: usize, x: &[u32], a: &mut [u32], words: &[u32]) -> Answer
     ensures { b2a_short_call 32 n x.now a.old words.now ≡ (result, a.new) }
 {
-    share_calls::b2a_short(n, x, a, words)
+    share_calls::b2a_short(n, x, a, words).into()
 }
 
 // ---- SHA-1 and HMAC
@@ -167,7 +168,7 @@ pub extern "C" fn flamivorse_split_key(
     ensures { split_key_call (sha1 32) n key.now shares.old words.now
         ≡ (result, shares.new) }
 {
-    calls::split_key(Algorithm::Sha1, n, key, shares, words).into().into()
+    calls::split_key(Algorithm::Sha1, n, key, shares, words).into()
 }
 
 // One compression of a block of 16n words in shares into a chain.
@@ -203,7 +204,7 @@ pub extern "C" fn flamivorse_hmac_sha1(
         words.now
         ≡ (result, tag.new) }
 {
-    calls::tag(Algorithm::Sha1, n, key, message, tag, words)
+    calls::tag(Algorithm::Sha1, n, key, message, tag, words).into()
 }
 
 // The state that a message starts from, under a key in shares.
@@ -283,7 +284,7 @@ pub extern "C" fn flamivorse_hmac_sha256(
         words.now
         ≡ (result, tag.new) }
 {
-    calls::tag(Algorithm::Sha256, n, key, message, tag, words)
+    calls::tag(Algorithm::Sha256, n, key, message, tag, words).into()
 }
 
 // The state that a message starts from, under a key in shares.
@@ -463,12 +464,5 @@ pub extern "C" fn flamivorse_hmac_sha256_feed_words(state: State, length: usize)
 pub extern "C" fn flamivorse_hmac_sha256_finish_words(state: State) -> Answer
     ensures { finish_words (sha256 32) state ≡ result }
 {
-    finish_words(
-        Algorithm::Sha256,
-        state.n,
-        state.bytes,
-        state.drawn,
-        state.finished,
-        state.hash,
-    ).into()
+    finish_words(Algorithm::Sha256, &state).into()
 }
