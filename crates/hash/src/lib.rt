@@ -12,7 +12,6 @@ ghost use Rattle.rules.specs.Calls.{compressed};
 ghost use Rattle.rules.specs.Stream.{state_room};
 ghost use Rattle.hash.specs.Hash.{hash, standard};
 
-use masked_words::clear;
 use rules::{
     Algorithm, BLOCK, BLOCK_WORDS, CHAIN_WORDS, SHA256_CHAIN, SHA256_CHAIN_WORDS, Sha256Chain,
 };
@@ -43,7 +42,7 @@ pub fn publish(n: usize, values: &[u32], z: &mut [u32])
     requires { (0 < n) × (length z.old ≡ length values.now * n) }
     ensures { z.new ≡ publics n values.now }
 {
-    masked_words::clear(z);
+    z.fill(0);
     mark(n, values, z);
 }
 
@@ -161,7 +160,7 @@ fn clear_rest(end: usize, chain: &mut [u32])
 {
     let room = chain.len();
     let rest = &mut chain[end..room];
-    clear(rest);
+    rest.fill(0);
 }
 
 // A chain with 0 in its unused words.

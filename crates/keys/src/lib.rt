@@ -15,7 +15,6 @@ ghost use Rattle.keys.specs.Padded.{padded};
 
 use hash::{Stepped, chain_end, mark};
 use key_words::{held_block, last_shares};
-use masked_words::clear;
 use padding::{blocks_in, padding_words};
 use rules::{Algorithm, BLOCK_BYTES, BLOCK_WORDS, KEY, Sha256Chain, WORD_BYTES};
 
@@ -95,7 +94,7 @@ fn digest_block(algorithm: Algorithm, n: usize, chain: Sha256Chain, z: &mut [u32
     let m = chain_end(algorithm, n);
     let all = chain.shares;
     let digest = &all[0..m];
-    clear(z);
+    z.fill(0);
     let front = &mut z[0..m];
     shares::copy(digest, front);
 }

@@ -1,13 +1,17 @@
 -- Words in shares, from the parts that the code works out one after the other.
-use Prim.Native.Nat.{ℕ, zero, suc, ◌+◌, ◌-◌, ◌*◌, ◌≤◌, ◌<◌}
-use mathlib.Core.Path.{◌≡◌, refl, sym, ap, ◌∙◌}
+use Prim.Native.Nat.{ℕ, zero, suc, ◌+◌, ◌-◌, ◌*◌, ◌/◌, ◌%◌, ◌^◌, ◌≤◌, ◌<◌}
+use mathlib.Core.Path.{◌≡◌, refl, sym, ◌∙◌}
 use mathlib.Core.List.{List, [], ◌++◌}
 use native.Mathlib.Nat.{suc-mul, add-mul, mul-le-mul_right}
-use native.Mathlib.Numerals.{add-one}
 use native.Mathlib.Omega.{arith}
-use lib.ListN.{length, set, take, drop, replicate, length-drop, replicate-append-replicate}
-use lib.Seq.{length-take-le, take_all, take-suc-set, take-append-le, drop-append-le}
-use Rattle.rules.specs.Sha1.{word, public, ago}
+use lib.Bits.{bit_or, or_comm}
+use lib.ListN.{length, set, take, drop, replicate, length-drop}
+use lib.Seq.{length-take-le, take_all, take-append-le, drop-append-le}
+use Rattle.std.specs.Int.{w32, rotate_left, rotate_right}
+use Rattle.words.specs.Word.{shift}
+use Rattle.rules.specs.Standard.{ROTL}
+use Rattle.rules.specs.Sha1.{word, public, rotl, ago}
+use Rattle.rules.proofs.Functions.{rotl_is}
 use Rattle.masked_words.specs.Words.{firsts}
 
 -- ---- word: word w, as a part of a slice
@@ -21,9 +25,6 @@ word_part n w s h =
 -- a word below the m-th ends within m words
 pub word_room : (n t m : ℕ) (s : List ℕ) → t < m → length s ≡ m * n → t * n + n ≤ length s
 word_room n t m s h e = omega (arith, mul-le-mul_right n h, suc-mul t n)
-
-pub put_room : (n t m : ℕ) (s x : List ℕ) → t < m → length s ≡ m * n → length x ≡ n → t * n + length x ≤ length s
-put_room n t m s x h e f = rw f (word_room n t m s h e)
 
 -- a word within the front of two lists; a word counted from the end
 pub word_front : (n i : ℕ) (a b : List ℕ) → i * n + n ≤ length a → word n i (a ++ b) ≡ word n i a
@@ -46,16 +47,25 @@ pub firsts_all : (n m : ℕ) (z : List ℕ) → length z ≡ m * n → firsts n 
 unfolding firsts
 firsts_all n m z e = take_all (m * n) z (omega arith)
 
--- ---- clear: zeros up to place i, and at the end everywhere
-pub zeros_next : (z : List ℕ) (i : ℕ) → i < length z → take i z ≡ replicate i 0
-    → take (i + 1) (set z i 0) ≡ replicate (i + 1) 0
-zeros_next z i h p =
-    rw (add-one i, take-suc-set z i 0 h, p)
-    (replicate-append-replicate {A = ℕ} i 1 0 ∙ ap (λ m. replicate m 0) (add-one i))
+-- ---- the rotations of std are those of the rules
+module _ (r x v : ℕ) (some : 0 < r) (below : r < 32) (fits : x < 2 ^ 32) where
+  by : r % 32 ≡ r
+  by = omega arith
 
-pub zeros_end : (z : List ℕ) (i m : ℕ) → length z ≤ i → i ≤ m → length z ≡ m → take i z ≡ replicate i 0
-    → z ≡ replicate m 0
-zeros_end z i m h l e p = let q : i ≡ m = omega arith in sym (take_all m z (omega arith)) ∙ rw q at p
+  back : (32 - r) % 32 ≡ 32 - r
+  back = omega arith
+
+  pub left_is : v ≡ rotate_left w32 x r → v ≡ rotl 32 r x
+  unfolding ROTL shift
+  left_is e = e ∙ rw (by, back) (sym (rotl_is 32 r x (omega arith) fits))
+
+  pub right_is : v ≡ rotate_right w32 x r → v ≡ rotl 32 (32 - r) x
+  unfolding ROTL shift
+  right_is e =
+      let twice : 32 - (32 - r) ≡ r = omega arith in
+      let up = x * 2 ^ (32 - r) % 2 ^ 32 in
+      let is : rotl 32 (32 - r) x ≡ bit_or up (x / 2 ^ r) = rotl_is 32 (32 - r) x (omega arith) fits ∙ rw twice in
+      e ∙ rw (by, back, is) (or_comm (x / 2 ^ r) up)
 
 -- ---- public: a value in front of zeros
 pub public_made : (n m v : ℕ) (z : List ℕ) → 0 < n → m ≡ n → z ≡ replicate m 0 → set z 0 v ≡ public n v

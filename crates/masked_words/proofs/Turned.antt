@@ -135,9 +135,6 @@ module _ (n m r i w : ℕ) (h : r < m) (l : i < m) (e : w ≡ (r + i) % m) where
   pub turned_below : w < m
   turned_below = rw e (mod-lt (r + i) (omega arith))
 
-  pub turned_room : (s : List ℕ) → length s ≡ m * n → w * n + n ≤ length s
-  turned_room s size = omega (arith, mul-le-mul_right n turned_below)
-
   module _ (s x : List ℕ) (size : length s ≡ m * n) where
     same_size : length (turned n r s) ≡ m * n
     same_size = length_turned n r s ∙ size

@@ -2,11 +2,11 @@
 // Taking one of them, a ring of them, and what SHA-1 does with whole words.
 #![tactic(auto)]
 
-ghost use Rattle.std.specs.Prelude.{◌≡◌, [], ◌∷◌, ◌+◌, ◌*◌, ◌%◌, ◌≤◌, ◌<◌, length, replicate};
+ghost use Rattle.std.specs.Prelude.{◌≡◌, [], ◌∷◌, ◌+◌, ◌*◌, ◌%◌, ◌≤◌, ◌<◌, length};
 ghost use Rattle.std.specs.Int.Bits.{bit_xor};
 ghost use Rattle.std.proofs.lemmas.List.Edits.{sets};
 ghost use Rattle.rules.specs.Shares.{each, add};
-ghost use Rattle.rules.specs.Sha1.{word, public, rotl, rotated};
+ghost use Rattle.rules.specs.Sha1.{word, public, rotated};
 ghost use Rattle.rules.specs.Counts.{and_draws};
 ghost use Rattle.masked_words.specs.Words.{Masked, turned};
 
@@ -62,43 +62,22 @@ pub fn put_turned(n: usize, m: usize, r: usize, i: usize, x: &[u32], s: &mut [u3
 
 // ---- one word
 
-// z becomes zeros.
-pub fn clear(z: &mut [u32])
-    ensures { z.new ≡ replicate (length z.old) 0 }
-{
-    let mut i = 0;
-    while i < z.len() {
-        z[i] = 0;
-        i += 1;
-    }
-}
-
 // A public value: (v, 0, .., 0).
 pub fn public(n: usize, v: u32, z: &mut [u32])
     requires { (0 < n) × (length z.old ≡ n) }
     ensures { z.new ≡ public n v }
 {
-    clear(z);
+    z.fill(0);
     z[0] = v;
 }
 
-// The rotation of one share to the left.
-pub fn rotate_share(x: u32, r: u32) -> u32
-    requires { (0 < r) × (r < 32) }
-    ensures { result ≡ rotl 32 r x }
-{
-    (x << r) ^ (x >> (32 - r))
-}
-
-// The rotation, share by share.
+// The rotation to the left, share by share.
 pub fn rotate(r: u32, x: &[u32], z: &mut [u32])
     requires { (0 < r) × (r < 32) × (length z.old ≡ length x.now) }
     ensures { z.new ≡ rotated 32 r x.now }
 {
-    let mut i = 0;
-    while i < x.len() {
-        z[i] = rotate_share(x[i], r);
-        i += 1;
+    for (i, v) in x.iter().enumerate() {
+        z[i] = v.rotate_left(r);
     }
 }
 
@@ -118,9 +97,7 @@ pub fn parity(n: usize, b: &[u32], c: &[u32], d: &[u32], f: &mut [u32])
     requires { Masked n (b.now ∷ c.now ∷ d.now ∷ f.old ∷ []) }
     ensures { f.new ≡ each bit_xor (each bit_xor b.now c.now) d.now }
 {
-    let mut i = 0;
-    while i < n {
+    for i in 0..n {
         f[i] = b[i] ^ c[i] ^ d[i];
-        i += 1;
     }
 }

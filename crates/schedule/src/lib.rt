@@ -10,7 +10,7 @@ ghost use Rattle.rules.specs.Sha1.{rotated, ago, following};
 ghost use Rattle.masked_words.specs.Words.{Sized, turned};
 ghost use Rattle.schedule.specs.Window.{slid};
 
-use masked_words::{put_turned, rotate_share, turned_word};
+use masked_words::{put_turned, turned_word};
 use rules::{BLOCK_WORDS, LARGEST, ROUNDS};
 
 // The word j before the end of the window u, which begins at word r.
@@ -27,10 +27,8 @@ fn mixed(n: usize, a: &[u32], b: &[u32], c: &[u32], d: &[u32], z: &mut [u32])
     ensures { z.new ≡ rotated 32 1 (each bit_xor (each bit_xor (each bit_xor
         a.now b.now) c.now) d.now) }
 {
-    let mut i = 0;
-    while i < n {
-        z[i] = rotate_share(a[i] ^ b[i] ^ c[i] ^ d[i], 1);
-        i += 1;
+    for i in 0..n {
+        z[i] = (a[i] ^ b[i] ^ c[i] ^ d[i]).rotate_left(1);
     }
 }
 

@@ -5,14 +5,12 @@ ghost use Rattle.std.specs.Prelude.{◌≡◌, map, length};
 ghost use Rattle.rules.specs.Sha256.{turns, falls};
 ghost use Rattle.sigmas.specs.Places.{Places};
 
-use masked_words::rotate_share;
-
 // Σ of one share: three rotations.
 fn turned_share(p: u32, q: u32, r: u32, x: u32) -> u32
     requires { Places p q r }
     ensures { result ≡ turns 32 p q r x }
 {
-    rotate_share(x, 32 - p) ^ rotate_share(x, 32 - q) ^ rotate_share(x, 32 - r)
+    x.rotate_right(p) ^ x.rotate_right(q) ^ x.rotate_right(r)
 }
 
 // σ of one share: two rotations, and a shift.
@@ -20,7 +18,7 @@ fn fallen_share(p: u32, q: u32, r: u32, x: u32) -> u32
     requires { Places p q r }
     ensures { result ≡ falls 32 p q r x }
 {
-    rotate_share(x, 32 - p) ^ rotate_share(x, 32 - q) ^ (x >> r)
+    x.rotate_right(p) ^ x.rotate_right(q) ^ (x >> r)
 }
 
 // z becomes Σ of x.
@@ -28,10 +26,8 @@ pub fn upper(p: u32, q: u32, r: u32, x: &[u32], z: &mut [u32])
     requires { Places p q r × (length z.old ≡ length x.now) }
     ensures { z.new ≡ map (turns 32 p q r) x.now }
 {
-    let mut i = 0;
-    while i < x.len() {
-        z[i] = turned_share(p, q, r, x[i]);
-        i += 1;
+    for (i, v) in x.iter().enumerate() {
+        z[i] = turned_share(p, q, r, *v);
     }
 }
 
@@ -40,9 +36,7 @@ pub fn lower(p: u32, q: u32, r: u32, x: &[u32], z: &mut [u32])
     requires { Places p q r × (length z.old ≡ length x.now) }
     ensures { z.new ≡ map (falls 32 p q r) x.now }
 {
-    let mut i = 0;
-    while i < x.len() {
-        z[i] = fallen_share(p, q, r, x[i]);
-        i += 1;
+    for (i, v) in x.iter().enumerate() {
+        z[i] = fallen_share(p, q, r, *v);
     }
 }

@@ -3,4 +3,4 @@ use Rattle.hash.proofs.Chains.{rest_made}
 use Rattle.hash.proofs.clear_rest.Goals as goal
 
 pub returns : goal.returns
-returns c = search rest_made
+returns c = search (rest_made, c.fill.ensures.after)

@@ -7,4 +7,4 @@ pub slice_bounds-digest-end : goal.slice_bounds-digest-end
 slice_bounds-digest-end c = search array_end
 
 pub returns : goal.returns
-returns c = search digest_made
+returns c = search (digest_made, c.fill.ensures.after)

@@ -1,10 +1,7 @@
 -- word i from word r on is the word at its place
 use borrow.Author.Rules.{rules}
-use Rattle.masked_words.proofs.Turned.{turned_room, turned_word}
+use Rattle.masked_words.proofs.Turned.{turned_word}
 use Rattle.masked_words.proofs.turned_word.Goals as goal
-
-pub word-requires : goal.word-requires
-word-requires c = search turned_room
 
 pub returns : goal.returns
 returns c = (search turned_word, search rules)

@@ -1,6 +1,9 @@
 -- two rotations and a shift, XORed
-use Rattle.sigmas.proofs.Parts.{fallen_made}
+use borrow.Author.Rules.{rules}
+use Rattle.rules.specs.Sha256.{falls}
+use Rattle.masked_words.proofs.Parts.{right_is}
 use Rattle.sigmas.proofs.fallen_share.Goals as goal
 
 pub returns : goal.returns
-returns c = search fallen_made
+unfolding falls
+returns c = search (right_is, rules)
