@@ -2,7 +2,7 @@
 // its whole outcome.
 #![tactic(auto)]
 
-ghost use Rattle.std.specs.Prelude.{◌≡◌, [], ◌∷◌, ◌*◌, eqb, length};
+ghost use Rattle.std.specs.Prelude.{◌≡◌, [], ◌∷◌, ◌*◌, eqb, length, OnErr};
 ghost use Rattle.rules.specs.Numbers.{allowed, test};
 ghost use Rattle.rules.specs.Refusals.{answer_of};
 ghost use Rattle.rules.specs.Hmac.{chain_room};
@@ -121,7 +121,8 @@ fn fed(
     words: &[u32],
 ) -> Result<usize, Refusal>
     requires { Whole state.old }
-    ensures { feed_call (hash algorithm) state.old piece.now words.now ≡ streamed (answer_of result) state.new }
+    ensures outcome { feed_call (hash algorithm) state.old piece.now words.now ≡ streamed (answer_of result) state.new }
+    ensures left { OnErr result (state.new ≡ state.old) }
 {
     let need = feed_words(algorithm, state, piece.len())?;
     require(need <= words.len(), Refusal::TooFewWords)?;
