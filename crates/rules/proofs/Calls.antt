@@ -105,8 +105,12 @@ unfolding call first
 refused_early ts us rule came ws refusal made e is =
     let all = stays ts us (test 5 (leb (rule ws 0).1 (length ws)) ∷ []) refusal e in
     let h = not_done refusal in
-    rw (all, settled_refused (number_of refusal) (rule ws 0).1 0 h,
-    settled_refused (number_of refusal) (rule ws 0).0 came h, passed_on made is)
+    rw (
+      all,
+      settled_refused (number_of refusal) (rule ws 0).1 0 h,
+      settled_refused (number_of refusal) (rule ws 0).0 came h,
+      passed_on made is,
+    )
   where
     stays : (ts us vs : List Test) (refusal : Refusal) → first ts ≡ number_of refusal
         → first ((ts ++ us) ++ vs) ≡ number_of refusal
@@ -134,8 +138,13 @@ module _ {S : Type 0} (tests : List Test) (rule : Draw S) (came : S) (ws : List 
   unfolding call
   refused refusal made e passes =
       let h = not_done refusal in
-      rw (own, e, settled_refused (number_of refusal) (rule ws 0).1 0 h,
-      settled_refused (number_of refusal) (rule ws 0).0 came h, passed_on made passes)
+      rw (
+        own,
+        e,
+        settled_refused (number_of refusal) (rule ws 0).1 0 h,
+        settled_refused (number_of refusal) (rule ws 0).0 came h,
+        passed_on made passes,
+      )
 
   pub done : (after : S) (drawn : ℕ) → number ≡ 0 → rule ws 0 ≡ (after, drawn)
       → call tests rule came ws ≡ (record { number = 0; drawn = drawn }, after)

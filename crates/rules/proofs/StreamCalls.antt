@@ -12,17 +12,16 @@ use borrow.Author.Tests.{eqb-true, leb-true}
 use Rattle.rules.specs.declared.Answer.{Answer}
 use Rattle.rules.specs.declared.Sha256Chain.{Sha256Chain}
 use Rattle.rules.specs.declared.State.{State}
-use Rattle.rules.specs.declared.Streamed.{Streamed}
 use Rattle.rules.specs.Supply.{Rule}
-use Rattle.rules.specs.Numbers.{largest, longest_message, allowed, Test, test, first, settled}
+use Rattle.rules.specs.Numbers.{largest, longest_message, allowed, test, first, settled}
 use Rattle.rules.specs.Hash.{Hash, block_bytes, chain_words, digest_bytes}
 use Rattle.rules.specs.Sha1.{open_words}
 use Rattle.rules.specs.Hmac.{Masked}
 use Rattle.rules.specs.Counts.{start_draws, feed_draws, finish_draws, standard_of, hash_of}
-use Rattle.rules.specs.Stream.{state_room, in_use, waiting, fit, is_fit, state_of_zeros, start, feed, finish}
+use Rattle.rules.specs.Stream.{state_room, in_use, waiting, fit, is_fit, start, feed, finish}
 use Rattle.rules.specs.Stream.{start_words}
 use Rattle.rules.specs.Stream.{feed_words, finish_words}
-use Rattle.rules.specs.Stream.{streamed, start_call, feed_call, finish_call, closed}
+use Rattle.rules.specs.Stream.{streamed, feed_call, finish_call, closed}
 use Rattle.rules.specs.Calls.{query, call}
 use Rattle.rules.specs.Outcome.{Whole}
 use Rattle.rules.proofs.Rule.{said, alike}
@@ -38,7 +37,7 @@ use Rattle.rules.proofs.Streaming.{made_whole}
 use Rattle.std.specs.Prelude.{Result, Ok, Err, IsErrAnd}
 use Rattle.rules.specs.declared.Refusal.{Refusal}
 use Rattle.rules.specs.Refusals.{number_of, answer_of}
-use Rattle.rules.proofs.Calls.{not_done, passed, holds, one_more, tells, settled_refused, refused, done}
+use Rattle.rules.proofs.Calls.{not_done, passed, holds, tells, settled_refused}
 use Rattle.rules.proofs.Tested.{needs, taken, fits}
 
 module _ (M : Masked) (s : State) (some : 0 < s.n) (keeps : Keeps M s.n (λ v. Unit {0}) (Sized s.n))

@@ -20,7 +20,7 @@ use Rattle.rules.specs.Counts.{refresh_draws, and_draws, add_draws, to_bool_draw
 use Rattle.rules.specs.Counts.{key_draws, hmac_draws, standard_of, hash_of}
 use Rattle.rules.specs.Hash.{chain_words, digest_bytes}
 use Rattle.rules.specs.Hmac.{Masked, chain_room, used, split_key, hmac_tag}
-use Rattle.rules.specs.Calls.{one_tests, two_tests, open_call, query, compressed}
+use Rattle.rules.specs.Calls.{one_tests, two_tests, query, compressed}
 use Rattle.rules.specs.Stream.{fit}
 use Rattle.rules.proofs.Openings.{opened_lt}
 use Rattle.rules.proofs.Pairs.{refresh_rule, and_rule}
@@ -32,7 +32,7 @@ use Rattle.rules.proofs.Tags.{hash_proper}
 use Rattle.rules.proofs.MaskedHmac.{Keeps}
 use Rattle.rules.proofs.Loops.{length_used}
 use Rattle.rules.proofs.Allowed.{both_true, power_within, within}
-use Rattle.rules.proofs.Calls.{passed, holds, settled_refused, tells}
+use Rattle.rules.proofs.Calls.{passed, holds, tells}
 
 -- a query refuses nothing of a share count that is taken, with a text that fits
 pub taken : {counted : Bool} → counted ≡ true → first (test 1 counted ∷ []) ≡ 0

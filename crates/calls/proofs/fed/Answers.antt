@@ -1,5 +1,5 @@
 -- refused by its query or by the supply, with the state as it was; or the rule
-use Rattle.std.proofs.Common.{refl, sym, ap, rules, [], ◌∷◌}
+use Rattle.std.proofs.Common.{refl, sym, ap, [], ◌∷◌}
 use borrow.Author.Tests.{leb-true}
 use Rattle.rules.specs.declared.Answer.{Answer}
 use Rattle.rules.specs.Refusals.{code_of}

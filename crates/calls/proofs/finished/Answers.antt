@@ -1,5 +1,5 @@
 -- refused by its query or its tests, with the state and the tag's bytes as they came; or the rule
-use Rattle.std.proofs.Common.{refl, sym, ap, rules, ◌∙◌, List, ℕ, [], ◌∷◌}
+use Rattle.std.proofs.Common.{refl, sym, ap, rules, ◌∙◌, [], ◌∷◌}
 use borrow.Author.Tests.{eqb-true, leb-true}
 use Rattle.rules.specs.declared.Answer.{Answer}
 use Rattle.rules.specs.declared.State.{State}
