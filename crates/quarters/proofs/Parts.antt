@@ -6,8 +6,7 @@ use mathlib.Core.Logic.{◌⊎◌, inl, inr}
 use native.Mathlib.Omega.{arith}
 use lib.Bits.{bit_xor}
 use Rattle.rules.specs.Shares.{each}
-use Rattle.rules.specs.Standard.{K}
-use Rattle.rules.specs.Sha1.{public, chosen}
+use Rattle.rules.specs.Sha1.{chosen}
 use Rattle.rules.specs.Counts.{quarter_ands}
 use Rattle.rules.proofs.Loops.{Run}
 
@@ -25,10 +24,6 @@ module _ (ws : List ℕ) (at : ℕ) where
   -- the quarter's number, told by a test
   pub chosen_by : (q m : ℕ) (b c d : List ℕ) (o : Run) → q ≡ m → chosen m b c d ws at ≡ o → chosen q b c d ws at ≡ o
   chosen_by q m b c d o e g = rw e g
-
--- ---- constant_of
-pub constant_made : (n q v : ℕ) (z : List ℕ) → v ≡ K q → z ≡ public n v → z ≡ public n (K q)
-constant_made n q v z e g = rw (← e) g
 
 -- ---- quarter: how many ANDs its function makes, and so the room that it takes and the place after it
 ands_one : (q d : ℕ) → (q ≡ 0) ⊎ (q ≡ 2) → quarter_ands q * d ≡ d

@@ -14,12 +14,8 @@ use Rattle.masked_words.specs.Words.{turned}
 use Rattle.rules.proofs.Loops.{Run}
 use Rattle.masked_words.proofs.Rings.{row_one, row_more, ring_moved}
 
--- ---- sum_of, temp_at: the sum of a round, in the rule's order
+-- ---- temp_at: the sum of a round, in the rule's order
 module _ (ws : List ℕ) (at : ℕ) where
-  pub summed_of : (add : Adder) (n q : ℕ) (t f s w e c : List ℕ) (o : Run) → e ≡ word n 4 s → c ≡ public n (K q)
-      → summed add t f e c w ws at ≡ o → summed add t f (word n 4 s) (public n (K q)) w ws at ≡ o
-  summed_of add n q t f s w e c o g h i = rw (← g, ← h) i
-
   pub temp_made : (k : ℕ) (add : Adder) (n q : ℕ) (w s f a t : List ℕ) (p : ℕ) (o : Run)
       → chosen q (word n 1 s) (word n 2 s) (word n 3 s) ws at ≡ (f, p) → a ≡ word n 0 s → t ≡ rotated k 5 a
       → summed add t f (word n 4 s) (public n (K q)) w ws p ≡ o → temp k add n q w s ws at ≡ o
@@ -42,11 +38,6 @@ pub round_made : (k : ℕ) (add : Adder) (n q : ℕ) (w s t z ws : List ℕ) (at
     → temp k add n q w s ws at ≡ (t, p) → z ≡ moved k n t s → round k add n q w s ws at ≡ (z, p)
 unfolding round
 round_made k add n q w s t z ws at p e g = rw (e, g)
-
--- ---- round_of: the round, with the word that it is handed
-pub round_with : (k : ℕ) (add : Adder) (n q : ℕ) (w v s ws : List ℕ) (at : ℕ) (o : Run) → w ≡ v
-    → round k add n q w s ws at ≡ o → round k add n q v s ws at ≡ o
-round_with k add n q w v s ws at o e g = rw (← e) g
 
 -- ---- rounds_at: the words that the rounds from round t on draw, of m in all
 left_one : (m t : ℕ) → t < m → m - t ≡ suc (m - (t + 1))

@@ -144,10 +144,8 @@ pub fn rounds_at(n: usize, u: &mut [u32], s: &mut [u32], words: &[u32], at: usiz
         × (result ≡ at + rounds_ands 32 80 0 * and_draws n) }
 {
     let mut p = at;
-    let mut t: usize = 0;
-    while t < ROUNDS {
+    for t in 0..ROUNDS {
         p = round_of(n, t, u, s, words, p);
-        t += 1;
     }
     p
 }

@@ -1,30 +1,18 @@
 -- The rounds of masked SHA-256, from the parts that the code works out one after the other.
 use Prim.Native.Nat.{ℕ, ◌+◌, ◌*◌, ◌%◌, ◌<◌}
 use mathlib.Core.Path.{◌≡◌, ap, ◌∙◌}
-use mathlib.Core.List.{List, ◌++◌, map, append_assoc}
+use mathlib.Core.List.{List, ◌++◌, append_assoc}
 use lib.ListN.{length}
 use lib.Seq.{sets}
-use Rattle.rules.specs.Shares.{add}
 use Rattle.rules.specs.Convert.{Adder}
 use Rattle.rules.specs.Standard256.{K}
 use Rattle.rules.specs.Sha1.{word, public, chosen, summed}
-use Rattle.rules.specs.Sha256.{turns, Σ0, Σ1, temps, moved, renewed, round}
-use Rattle.rules.proofs.Loops.{Run}
+use Rattle.rules.specs.Sha256.{Σ0, Σ1, temps, moved, renewed, round}
 use Rattle.masked_words.specs.Words.{turned}
 use Rattle.masked_words.proofs.Rings.{row_one, row_more, ring_moved}
 use Rattle.rounds256.specs.Ends.{ends}
 
 module _ (k : ℕ) (adder : Adder) (ws : List ℕ) (at : ℕ) where
-  -- ---- first_sum, first_of
-  pub first_made : (n t v : ℕ) (h e f w x z c : List ℕ) (o : Run) → x ≡ map (turns k 6 11 25) e → v ≡ K t
-      → c ≡ public n v → z ≡ h → summed adder z x f c w ws at ≡ o
-      → summed adder h (Σ1 k e) f (public n (K t)) w ws at ≡ o
-  first_made n t v h e f w x z c o ex ev ec ez g = rw (← ev, ← ec, ← ex, ← ez) g
-
-  pub first_word : (n : ℕ) (s h e f c w : List ℕ) (o : Run) → h ≡ word n 7 s → e ≡ word n 4 s
-      → summed adder h (Σ1 k e) f c w ws at ≡ o → summed adder (word n 7 s) (Σ1 k (word n 4 s)) f c w ws at ≡ o
-  first_word n s h e f c w o eh ee g = rw (← eh, ← ee) g
-
   -- ---- temps_at
   pub temps_made : (n t : ℕ) (w s f g x y : List ℕ) (p q r end : ℕ)
       → chosen 0 (word n 4 s) (word n 5 s) (word n 6 s) ws at ≡ (f, p)
@@ -40,22 +28,6 @@ module _ (k : ℕ) (adder : Adder) (ws : List ℕ) (at : ℕ) where
   unfolding round renewed ends
   round_made n t w s x y u v z p q e f g =
       rw (e, g) (ap (λ (o : (List ℕ × List ℕ) × ℕ). (moved n o.0.0 o.0.1 s, o.1)) f)
-
--- ---- choices_at, sums_of: a place that is known
-pub placed : (x : Run) (z : List ℕ) (p q : ℕ) → x ≡ (z, p) → p ≡ q → x ≡ (z, q)
-placed x z p q e f = e ∙ ap (λ (t : ℕ). (z, t)) f
-
-pub chosen_from : (i : ℕ) (b c d ws : List ℕ) (p q : ℕ) (o : Run) → chosen i b c d ws p ≡ o → p ≡ q
-    → chosen i b c d ws q ≡ o
-chosen_from i b c d ws p q o e f = rw (← f) e
-
-pub added_from : (k : ℕ) (x y ws : List ℕ) (p q : ℕ) (o : Run) → add k x y ws p ≡ o → p ≡ q → add k x y ws q ≡ o
-added_from k x y ws p q o e f = rw (← f) e
-
--- ---- second_of
-pub second_made : (k n : ℕ) (s a g y ws : List ℕ) (at : ℕ) (o : Run) → a ≡ word n 0 s → y ≡ map (turns k 2 13 22) a
-    → add k y g ws at ≡ o → add k (Σ0 k (word n 0 s)) g ws at ≡ o
-second_made k n s a g y ws at o ea ey e = rw (← ea, ← ey) e
 
 -- ---- ends_at
 pub ends_made : (adder : Adder) (ws : List ℕ) (at : ℕ) (d x y b c u t v : List ℕ) (p q : ℕ) → b ≡ d → c ≡ b

@@ -295,8 +295,7 @@ pub fn rounds_at(n: usize, u: &[u32], s: &mut [u32], words: &[u32], at: usize) -
         × (result ≡ at + 64 * (226 * and_draws n)) }
 {
     let mut p = at;
-    let mut t: usize = 0;
-    while t < SHA256_ROUNDS {
+    for t in 0..SHA256_ROUNDS {
         let w = word(u, n, t);
         p = round_at(
             n,
@@ -307,7 +306,6 @@ pub fn rounds_at(n: usize, u: &[u32], s: &mut [u32], words: &[u32], at: usize) -
             words,
             p,
         );
-        t += 1;
     }
     p
 }

@@ -1,30 +1,21 @@
 -- The schedule of masked SHA-256, from the parts that the code works out one after the other.
 use Prim.Native.Nat.{ℕ, suc, ◌+◌, ◌-◌, ◌*◌, ◌≤◌, ◌<◌}
 use mathlib.Core.Path.{◌≡◌, sym, ap, ◌∙◌}
-use mathlib.Core.List.{List, ◌++◌, map, append_assoc}
+use mathlib.Core.List.{List, ◌++◌, append_assoc}
 use native.Mathlib.Nat.{add-mul, mul-le-mul_right}
 use native.Mathlib.Omega.{arith}
 use lib.ListN.{length, take, drop, take-append-drop}
 use lib.Seq.{sets, length-take-le, take-add, take_at, drop_at, sets-eq}
 use Rattle.rules.specs.Convert.{Adder}
 use Rattle.rules.specs.Sha1.{word, ago}
-use Rattle.rules.specs.Sha256.{falls, σ0, σ1, following, schedule}
+use Rattle.rules.specs.Sha256.{σ0, σ1, following, schedule}
 use Rattle.rules.proofs.Loops.{Run}
 use Rattle.masked_words.specs.Words.{firsts}
 use Rattle.sums.specs.Three.{three}
 use Rattle.masked_words.proofs.Parts.{word_room, word_front, ago_is, firsts_all}
 
--- ---- sum_of: σ1 and σ0 first
-pub sum_made : (k : ℕ) (add : Adder) (ws : List ℕ) (at : ℕ) (a b c d x y : List ℕ) (o : Run)
-    → x ≡ map (falls k 17 19 10) a → y ≡ map (falls k 7 18 3) c
-    → three add x b y d ws at ≡ o → three add (σ1 k a) b (σ0 k c) d ws at ≡ o
-sum_made k add ws at a b c d x y o ex ey f = rw (← ex, ← ey) f
-
 -- ---- following_at: words of the first t, from their end
 module _ (n t : ℕ) (u : List ℕ) (size : length u ≡ 64 * n) (low : 16 ≤ t) (below : t < 64) where
-  pub back_room : (j : ℕ) → (t - j) * n + n ≤ length u
-  back_room j = word_room n (t - j) 64 u (omega arith) size
-
   back : (j : ℕ) → 0 < j → j ≤ 16 → ago n j (firsts n t u) ≡ word n (t - j) u
   unfolding firsts
   back j some few =

@@ -82,10 +82,8 @@ pub fn schedule_at(n: usize, u: &mut [u32], words: &[u32], at: usize) -> usize
         × (result ≡ at + 48 * (96 * and_draws n)) }
 {
     let mut p = at;
-    let mut t = BLOCK_WORDS;
-    while t < SHA256_ROUNDS {
+    for t in BLOCK_WORDS..SHA256_ROUNDS {
         p = extend_at(n, t, u, words, p);
-        t += 1;
     }
     p
 }

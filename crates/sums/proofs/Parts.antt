@@ -91,9 +91,6 @@ module _ (add : Adder) (n m : ℕ) (h s ws : List ℕ) (i at : ℕ) (z : List �
 
 -- the words that they draw, d to a sum
 module _ (m i d p end : ℕ) where
-  pub sum_room : (size : ℕ) → p + (m - i) * d ≡ end → i < m → end ≤ size → p + d ≤ size
-  sum_room size e h l = omega (arith, times_suc (m - i) (m - (i + 1)) d (omega arith))
-
   pub sum_after : (q : ℕ) → p + (m - i) * d ≡ end → i < m → q ≡ p + d → q + (m - (i + 1)) * d ≡ end
   sum_after q e h l = omega (arith, times_suc (m - i) (m - (i + 1)) d (omega arith))
 

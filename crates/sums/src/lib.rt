@@ -79,10 +79,8 @@ pub fn sums_at(n: usize, count: usize, s: &[u32], z: &mut [u32], words: &[u32], 
         × (result ≡ at + count * (32 * and_draws n)) }
 {
     let mut p = at;
-    let mut i = 0;
-    while i < count {
+    for i in 0..count {
         p = sum_at(n, i, s, z, words, p);
-        i += 1;
     }
     p
 }

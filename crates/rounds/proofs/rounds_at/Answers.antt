@@ -8,18 +8,15 @@ use Rattle.rounds.proofs.Parts.{round_room, round_after, rounds_after}
 use Rattle.rounds.proofs.rounds_at.Goals as goal
 
 pub loop-t-init : goal.loop-t-init
-loop-t-init c = (search rules, search rules, search rules, refl, search window_begins, rw turned_none)
+loop-t-init c = (refl, search window_begins, rw turned_none)
 
 pub round_of-p-requires : goal.round_of-p-requires
 round_of-p-requires c = (search rules, search rules, search rules, search rules, search rules, search round_room)
 
 pub loop-t-preserved : goal.loop-t-preserved
 loop-t-preserved c = (
-  search rules,
-  search rules,
-  search rules,
   search round_after,
-  search window_next,
+  search (window_next, rules),
   search (ring_next 5 (omega arith), window_word),
 )
 

@@ -1,24 +1,15 @@
-use borrow.Author.Rules.{rules}
 use mathlib.Core.Path.{refl}
 use native.Mathlib.Omega.{arith}
-use Rattle.masked_words.proofs.Parts.{word_room}
 use Rattle.masked_words.proofs.Turned.{turned_none}
 use Rattle.masked_words.proofs.Rings.{ring_next, ring_end}
-use Rattle.sums.proofs.Parts.{sum_room, sum_after, sums_after}
+use Rattle.sums.proofs.Parts.{sum_after, sums_after}
 use Rattle.rounds256.proofs.rounds_at.Goals as goal
 
 pub loop-t-init : goal.loop-t-init
-loop-t-init c = (search rules, search rules, refl, rw turned_none)
-
-pub word-w-requires : goal.word-w-requires
-word-w-requires c = search word_room
-
-pub round_at-p-requires : goal.round_at-p-requires
-round_at-p-requires c =
-    (search rules, search rules, search rules, search rules, search rules, search (rules, sum_room))
+loop-t-init c = (refl, rw turned_none)
 
 pub loop-t-preserved : goal.loop-t-preserved
-loop-t-preserved c = (search rules, search rules, search sum_after, search (ring_next 8 (omega arith)))
+loop-t-preserved c = (search sum_after, search (ring_next 8 (omega arith)))
 
 pub returns : goal.returns
 returns c = (search (ring_end 8 (omega arith)), search sums_after)

@@ -1,17 +1,10 @@
 use borrow.Author.Rules.{rules}
-use mathlib.Core.Path.{refl}
-use Rattle.sums.proofs.Parts.{sum_room, sum_after, sums_after}
+use Rattle.sums.proofs.Parts.{sum_after, sums_after}
 use Rattle.schedule256.proofs.Parts.{schedule_next, schedule_end}
 use Rattle.schedule256.proofs.schedule_at.Goals as goal
 
-pub loop-t-init : goal.loop-t-init
-loop-t-init c = (search rules, search rules, search rules, refl, refl)
-
-pub extend_at-p-requires : goal.extend_at-p-requires
-extend_at-p-requires c = (search rules, search rules, search rules, search rules, search (rules, sum_room))
-
 pub loop-t-preserved : goal.loop-t-preserved
-loop-t-preserved c = (search rules, search rules, search rules, search sum_after, search schedule_next)
+loop-t-preserved c = (search rules, search rules, search sum_after, search schedule_next)
 
 pub returns : goal.returns
 returns c = (search schedule_end, search sums_after)

@@ -10,10 +10,7 @@ use Rattle.schedule256.proofs.schedule_at.Given as goal
 
 abbrev pub invariant-loop-t : goal.invariant-loop-t
 invariant-loop-t l =
-    (16 ≤ l.t) × (l.t ≤ 64) × (length l.u ≡ 64 * l.n)
+    (l.t ≤ 64) × (length l.u ≡ 64 * l.n)
     × (l.p + (64 - l.t) * (96 * and_draws l.n) ≡ l.at + 48 * (96 * and_draws l.n))
     × (schedule 32 (add 32) l.n (64 - l.t) (firsts l.n l.t l.u) l.words l.p
     ≡ schedule 32 (add 32) l.n 48 (firsts l.n 16 l.initial.u) l.words l.at)
-
-abbrev pub decreases-loop-t : goal.decreases-loop-t
-decreases-loop-t l = 64 - l.t

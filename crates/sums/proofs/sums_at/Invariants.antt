@@ -1,5 +1,5 @@
 -- up to word i the chain's sums stand, behind them its old words; what is left gives the rest
-use Prim.Native.Nat.{◌+◌, ◌-◌, ◌*◌, ◌≤◌}
+use Prim.Native.Nat.{◌+◌, ◌-◌, ◌*◌}
 use mathlib.Core.Path.{◌≡◌}
 use mathlib.Core.List.{[]}
 use lib.ListN.{length, drop}
@@ -11,11 +11,8 @@ use Rattle.sums.proofs.sums_at.Given as goal
 
 abbrev pub invariant-loop-i : goal.invariant-loop-i
 invariant-loop-i l =
-    (l.i ≤ l.count) × (length l.z ≡ l.count * l.n) × (l.p + (l.count - l.i) * (32 * and_draws l.n)
-    ≡ l.at + l.count * (32 * and_draws l.n))
+    (length l.z ≡ l.count * l.n)
+    × (l.p + (l.count - l.i) * (32 * and_draws l.n) ≡ l.at + l.count * (32 * and_draws l.n))
     × (drop (l.i * l.n) l.z ≡ drop (l.i * l.n) l.initial.z)
     × (sums (add 32) l.n l.initial.z l.s (l.count - l.i) l.i (firsts l.n l.i l.z) l.words l.p
     ≡ sums (add 32) l.n l.initial.z l.s l.count 0 [] l.words l.at)
-
-abbrev pub decreases-loop-i : goal.decreases-loop-i
-decreases-loop-i l = l.count - l.i

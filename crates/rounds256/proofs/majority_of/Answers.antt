@@ -1,7 +1,0 @@
--- Maj of three words of the ring
-use borrow.Author.Rules.{rules}
-use Rattle.choices.proofs.Parts.{chosen_of}
-use Rattle.rounds256.proofs.majority_of.Goals as goal
-
-pub returns : goal.returns
-returns c = (search chosen_of, search rules)
