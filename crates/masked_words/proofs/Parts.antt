@@ -1,17 +1,12 @@
 -- Words in shares, from the parts that the code works out one after the other.
-use Prim.Native.Nat.{ℕ, zero, suc, ◌+◌, ◌-◌, ◌*◌, ◌/◌, ◌%◌, ◌^◌, ◌≤◌, ◌<◌}
-use mathlib.Core.Path.{◌≡◌, refl, sym, ◌∙◌}
+use Prim.Native.Nat.{ℕ, zero, suc, ◌+◌, ◌-◌, ◌*◌, ◌≤◌, ◌<◌}
+use mathlib.Core.Path.{◌≡◌, refl}
 use mathlib.Core.List.{List, [], ◌++◌}
 use native.Mathlib.Nat.{suc-mul, add-mul, mul-le-mul_right}
 use native.Mathlib.Omega.{arith}
-use lib.Bits.{bit_or, or_comm}
 use lib.ListN.{length, set, take, drop, replicate, length-drop}
 use lib.Seq.{length-take-le, take_all, take-append-le, drop-append-le}
-use Rattle.std.specs.Int.{w32, rotate_left, rotate_right}
-use Rattle.words.specs.Word.{shift}
-use Rattle.rules.specs.Standard.{ROTL}
-use Rattle.rules.specs.Sha1.{word, public, rotl, ago}
-use Rattle.rules.proofs.Functions.{rotl_is}
+use Rattle.rules.specs.Sha1.{word, public, ago}
 use Rattle.masked_words.specs.Words.{firsts}
 
 -- ---- word: word w, as a part of a slice
@@ -46,26 +41,6 @@ firsts_none n z = let none : 0 * n ≡ 0 = omega arith in rw none
 pub firsts_all : (n m : ℕ) (z : List ℕ) → length z ≡ m * n → firsts n m z ≡ z
 unfolding firsts
 firsts_all n m z e = take_all (m * n) z (omega arith)
-
--- ---- the rotations of std are those of the rules
-module _ (r x v : ℕ) (some : 0 < r) (below : r < 32) (fits : x < 2 ^ 32) where
-  by : r % 32 ≡ r
-  by = omega arith
-
-  back : (32 - r) % 32 ≡ 32 - r
-  back = omega arith
-
-  pub left_is : v ≡ rotate_left w32 x r → v ≡ rotl 32 r x
-  unfolding ROTL shift
-  left_is e = e ∙ rw (by, back) (sym (rotl_is 32 r x (omega arith) fits))
-
-  pub right_is : v ≡ rotate_right w32 x r → v ≡ rotl 32 (32 - r) x
-  unfolding ROTL shift
-  right_is e =
-      let twice : 32 - (32 - r) ≡ r = omega arith in
-      let up = x * 2 ^ (32 - r) % 2 ^ 32 in
-      let is : rotl 32 (32 - r) x ≡ bit_or up (x / 2 ^ r) = rotl_is 32 (32 - r) x (omega arith) fits ∙ rw twice in
-      e ∙ rw (by, back, is) (or_comm (x / 2 ^ r) up)
 
 -- ---- public: a value in front of zeros
 pub public_made : (n m v : ℕ) (z : List ℕ) → 0 < n → m ≡ n → z ≡ replicate m 0 → set z 0 v ≡ public n v

@@ -6,7 +6,7 @@ ghost use Rattle.std.specs.Prelude.{◌≡◌, [], ◌∷◌, ◌+◌, ◌*◌, 
 ghost use Rattle.std.specs.Int.Bits.{bit_xor};
 ghost use Rattle.std.proofs.lemmas.List.Edits.{sets};
 ghost use Rattle.rules.specs.Shares.{each, add};
-ghost use Rattle.rules.specs.Sha1.{word, public, rotated};
+ghost use Rattle.rules.specs.Sha1.{word, public, rotl, rotated};
 ghost use Rattle.rules.specs.Counts.{and_draws};
 ghost use Rattle.masked_words.specs.Words.{Masked, turned};
 
@@ -71,13 +71,21 @@ pub fn public(n: usize, v: u32, z: &mut [u32])
     z[0] = v;
 }
 
-// The rotation to the left, share by share.
+// The rotation of one share to the left.
+pub fn rotate_share(x: u32, r: u32) -> u32
+    requires { (0 < r) × (r < 32) }
+    ensures { result ≡ rotl 32 r x }
+{
+    (x << r) ^ (x >> (32 - r))
+}
+
+// The rotation, share by share.
 pub fn rotate(r: u32, x: &[u32], z: &mut [u32])
     requires { (0 < r) × (r < 32) × (length z.old ≡ length x.now) }
     ensures { z.new ≡ rotated 32 r x.now }
 {
     for (i, v) in x.iter().enumerate() {
-        z[i] = v.rotate_left(r);
+        z[i] = rotate_share(*v, r);
     }
 }
 

@@ -10,7 +10,7 @@ ghost use Rattle.rules.specs.Sha1.{rotated, ago, following};
 ghost use Rattle.masked_words.specs.Words.{Sized, turned};
 ghost use Rattle.schedule.specs.Window.{slid};
 
-use masked_words::{put_turned, turned_word};
+use masked_words::{put_turned, rotate_share, turned_word};
 use rules::{BLOCK_WORDS, LARGEST, ROUNDS};
 
 // The word j before the end of the window u, which begins at word r.
@@ -28,7 +28,7 @@ fn mixed(n: usize, a: &[u32], b: &[u32], c: &[u32], d: &[u32], z: &mut [u32])
         a.now b.now) c.now) d.now) }
 {
     for i in 0..n {
-        z[i] = (a[i] ^ b[i] ^ c[i] ^ d[i]).rotate_left(1);
+        z[i] = rotate_share(a[i] ^ b[i] ^ c[i] ^ d[i], 1);
     }
 }
 

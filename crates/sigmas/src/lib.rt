@@ -5,12 +5,14 @@ ghost use Rattle.std.specs.Prelude.{◌≡◌, map, length};
 ghost use Rattle.rules.specs.Sha256.{turns, falls};
 ghost use Rattle.sigmas.specs.Places.{Places};
 
+use masked_words::rotate_share;
+
 // Σ of one share: three rotations.
 fn turned_share(p: u32, q: u32, r: u32, x: u32) -> u32
     requires { Places p q r }
     ensures { result ≡ turns 32 p q r x }
 {
-    x.rotate_right(p) ^ x.rotate_right(q) ^ x.rotate_right(r)
+    rotate_share(x, 32 - p) ^ rotate_share(x, 32 - q) ^ rotate_share(x, 32 - r)
 }
 
 // σ of one share: two rotations, and a shift.
@@ -18,7 +20,7 @@ fn fallen_share(p: u32, q: u32, r: u32, x: u32) -> u32
     requires { Places p q r }
     ensures { result ≡ falls 32 p q r x }
 {
-    x.rotate_right(p) ^ x.rotate_right(q) ^ (x >> r)
+    rotate_share(x, 32 - p) ^ rotate_share(x, 32 - q) ^ (x >> r)
 }
 
 // z becomes Σ of x.
