@@ -1,5 +1,5 @@
-// The calls over a hash: a key split, one compression, a tag in one call and in pieces. Each takes any arguments and says
-// its whole outcome.
+// The calls over a hash: a key split, one compression, a tag in one call and in pieces. Each takes any arguments and
+// says its whole outcome.
 #![tactic(auto)]
 
 ghost use Rattle.std.specs.Prelude.{◌≡◌, [], ◌∷◌, ◌*◌, eqb, length, OnErr};

@@ -129,7 +129,8 @@ module _ (tail piece z : List ℕ) where
       e ∙ ap₂ (λ l t. take l (drop t (tail ++ piece))) room place ∙ take_all left rest (omega (arith, over)) in
       rw (last, over, zeros_after 64 left (omega arith))
 
-pub feed_made : (code : Algorithm) (s : State) (piece ws tail rest : List ℕ) (at p : ℕ) (inner : Sha256Chain) (r : State)
+pub feed_made : (code : Algorithm) (s : State) (piece ws tail rest : List ℕ) (at p : ℕ) (inner : Sha256Chain)
+    (r : State)
     → tail ≡ take (s.bytes % 64) s.tail
     → full_blocks (hash code) s.n ((length tail + length piece) / 64) (tail ++ piece)
     (used (standard code) s.n s.inner.shares) ws at

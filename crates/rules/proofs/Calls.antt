@@ -13,7 +13,7 @@ use borrow.Author.Tests.{eq-eqb, ne_eqb}
 use Rattle.rules.specs.declared.Answer.{Answer}
 use Rattle.rules.specs.declared.Refusal.{Refusal}
 use Rattle.rules.specs.declared.Refusal.TheVariants.{WrongCount, WrongInput, WrongOutput, TooLong, TooFewWords, NotFit}
-use Rattle.rules.specs.Refusals.{number_of, number, answer_of}
+use Rattle.rules.specs.Refusals.{refusal_number, number, answer_of}
 use Rattle.rules.specs.Supply.{Draw}
 use Rattle.rules.specs.Numbers.{Test, test, first, settled}
 use Rattle.rules.specs.Calls.{record_call, call, query}
@@ -71,8 +71,12 @@ pub settled_refused : {A : Type 0} (number : ℕ) (done came : A) → (number �
 settled_refused zero done came h = absurd (h refl)
 settled_refused (suc number) done came h = refl
 
+-- an answer by its parts
+abbrev pub answer : ℕ → ℕ → Answer
+answer number drawn = record { number = number; drawn = drawn }
+
 -- what a query tells that refuses nothing
-pub tells : (tests : List Test) (drawn asked need : ℕ) → query tests drawn ≡ record { number = asked; drawn = need }
+pub tells : (tests : List Test) (drawn asked need : ℕ) → query tests drawn ≡ answer asked need
     → first tests ≡ 0 → drawn ≡ need
 tells tests drawn asked need e h = rw h at (ap (λ (a : Answer). a.drawn) e)
 
@@ -83,7 +87,7 @@ answered tests drawn need (Ok n) e f = rw f e
 answered tests drawn need (Err refusal) e f = rw f e
 
 -- ---- a call's outcome
-pub not_done : (refusal : Refusal) → number_of refusal ≡ 0 → ⊥
+pub not_done : (refusal : Refusal) → refusal_number refusal ≡ 0 → ⊥
 not_done WrongCount h = absurd (omega arith)
 not_done WrongInput h = absurd (omega arith)
 not_done WrongOutput h = absurd (omega arith)
@@ -99,7 +103,7 @@ passed_on (Err r) h = ap Err h
 
 -- refused by the first of its tests
 pub refused_early : {S : Type 0} (ts us : List Test) (rule : Draw S) (came : S) (ws : List ℕ) (refusal : Refusal)
-    (made : Result ℕ Refusal) → first ts ≡ number_of refusal → IsErrAnd made (λ r. r ≡ refusal)
+    (made : Result ℕ Refusal) → first ts ≡ refusal_number refusal → IsErrAnd made (λ r. r ≡ refusal)
     → call (ts ++ us) rule came ws ≡ (answer_of made, came)
 unfolding call first
 refused_early ts us rule came ws refusal made e is =
@@ -107,13 +111,13 @@ refused_early ts us rule came ws refusal made e is =
     let h = not_done refusal in
     rw (
       all,
-      settled_refused (number_of refusal) (rule ws 0).1 0 h,
-      settled_refused (number_of refusal) (rule ws 0).0 came h,
+      settled_refused (refusal_number refusal) (rule ws 0).1 0 h,
+      settled_refused (refusal_number refusal) (rule ws 0).0 came h,
       passed_on made is,
     )
   where
-    stays : (ts us vs : List Test) (refusal : Refusal) → first ts ≡ number_of refusal
-        → first ((ts ++ us) ++ vs) ≡ number_of refusal
+    stays : (ts us vs : List Test) (refusal : Refusal) → first ts ≡ refusal_number refusal
+        → first ((ts ++ us) ++ vs) ≡ refusal_number refusal
     stays [] us vs refusal h = absurd (not_done refusal (sym h))
     stays (zero ∷ ts) us vs refusal h = stays ts us vs refusal h
     stays (suc t ∷ ts) us vs refusal h = h
@@ -121,7 +125,7 @@ refused_early ts us rule came ws refusal made e is =
 -- which its query makes
 pub refused_asked : {S : Type 0} (ts us : List Test) (rule : Draw S) (came : S) (ws : List ℕ) (d : ℕ)
     (refusal : Refusal) (made : Result ℕ Refusal)
-    → query ts d ≡ record { number = number_of refusal; drawn = 0 } → IsErrAnd made (λ r. r ≡ refusal)
+    → query ts d ≡ record { number = refusal_number refusal; drawn = 0 } → IsErrAnd made (λ r. r ≡ refusal)
     → call (ts ++ us) rule came ws ≡ (answer_of made, came)
 refused_asked ts us rule came ws d refusal made e =
     refused_early ts us rule came ws refusal made (ap (λ (a : Answer). a.number) e)
@@ -133,7 +137,7 @@ module _ {S : Type 0} (tests : List Test) (rule : Draw S) (came : S) (ws : List 
   own : first (tests ++ (test 5 (leb (rule ws 0).1 (length ws)) ∷ [])) ≡ number
   own = sym (same_test tests [] 5 need (rule ws 0).1 (length ws) draws) ∙ is
 
-  pub refused : (refusal : Refusal) (made : Result ℕ Refusal) → number ≡ number_of refusal
+  pub refused : (refusal : Refusal) (made : Result ℕ Refusal) → number ≡ refusal_number refusal
       → IsErrAnd made (λ r. r ≡ refusal) → call tests rule came ws ≡ (answer_of made, came)
   unfolding call
   refused refusal made e passes =
@@ -141,8 +145,8 @@ module _ {S : Type 0} (tests : List Test) (rule : Draw S) (came : S) (ws : List 
       rw (
         own,
         e,
-        settled_refused (number_of refusal) (rule ws 0).1 0 h,
-        settled_refused (number_of refusal) (rule ws 0).0 came h,
+        settled_refused (refusal_number refusal) (rule ws 0).1 0 h,
+        settled_refused (refusal_number refusal) (rule ws 0).0 came h,
         passed_on made passes,
       )
 

@@ -36,8 +36,8 @@ use Rattle.rules.proofs.Streaming.{start_rule, feed_reads, finish_reads, fed_rul
 use Rattle.rules.proofs.Streaming.{made_whole}
 use Rattle.std.specs.Prelude.{Result, Ok, Err, IsErrAnd}
 use Rattle.rules.specs.declared.Refusal.{Refusal}
-use Rattle.rules.specs.Refusals.{number_of, answer_of}
-use Rattle.rules.proofs.Calls.{not_done, passed, holds, tells, settled_refused}
+use Rattle.rules.specs.Refusals.{refusal_number, answer_of}
+use Rattle.rules.proofs.Calls.{answer, not_done, passed, holds, tells, settled_refused}
 use Rattle.rules.proofs.Tested.{needs, taken, fits}
 
 module _ (M : Masked) (s : State) (some : 0 < s.n) (keeps : Keeps M s.n (λ v. Unit {0}) (Sized s.n))
@@ -99,7 +99,7 @@ module _ (code : ℕ) where
   tag_size = digest_bytes (standard_of 32 code)
 
   pub start_needs : (n : ℕ) (key ws : List ℕ) (asked need : ℕ)
-      → first (test 1 (allowed n) ∷ test 2 (eqb (length key) (16 * n)) ∷ []) ≡ 0 → start_words M n ≡ record { number = asked; drawn = need }
+      → first (test 1 (allowed n) ∷ test 2 (eqb (length key) (16 * n)) ∷ []) ≡ 0 → start_words M n ≡ answer asked need
       → (start M n key ws 0).1 ≡ need
   start_needs n key ws asked need h e =
       let p = passed _ h in
@@ -117,7 +117,7 @@ module _ (code : ℕ) where
 
     pub feed_ready : (l : ℕ)
         → query (test 6 taken_so ∷ test 4 (leb (bytes + l) longest_message) ∷ []) (feed_draws M n bytes l)
-        ≡ record { number = 0; drawn = need }
+        ≡ answer 0 need
         → need ≤ have
         → (0 < n) × (n ≤ largest) × (bytes + l ≤ longest_message) × (0 + feed_draws M n bytes l ≤ have)
     feed_ready l e enough =
@@ -126,7 +126,7 @@ module _ (code : ℕ) where
         let count = within n (fits M n bytes drawn finished hash (holds _ _ p.0)).0 in
         (count.0, count.1, leb-true _ _ (holds _ _ p.1.0), rw (zero-add, tells _ _ _ _ e none) enough)
 
-    pub finish_ready : query (test 6 taken_so ∷ []) (finish_draws M n bytes) ≡ record { number = 0; drawn = need }
+    pub finish_ready : query (test 6 taken_so ∷ []) (finish_draws M n bytes) ≡ answer 0 need
         → need ≤ have
         → (0 < n) × (n ≤ largest) × (bytes ≤ longest_message) × (0 + finish_draws M n bytes ≤ have)
     finish_ready e enough =
@@ -142,7 +142,7 @@ module _ (code : ℕ) where
 
     pub feed_needs : (piece : List ℕ)
         → first (test 6 (is_fit M s) ∷ test 4 (leb (s.bytes + length piece) longest_message) ∷ []) ≡ 0
-        → feed_words M s (length piece) ≡ record { number = asked; drawn = need } → (feed M s piece ws 0).1 ≡ need
+        → feed_words M s (length piece) ≡ answer asked need → (feed M s piece ws 0).1 ≡ need
     feed_needs piece h e =
         let count = counted (holds _ _ (passed _ h).0) in
         let some = (within s.n count).0 in
@@ -151,7 +151,7 @@ module _ (code : ℕ) where
         (chain_fits 32 code s.n (within s.n count).1) whole piece)
 
     pub finish_needs : (came : List ℕ) → first (test 6 (is_fit M s) ∷ test 3 (eqb (length came) tag_size) ∷ []) ≡ 0
-        → finish_words M s ≡ record { number = asked; drawn = need } → (finish M s ws 0).1 ≡ need
+        → finish_words M s ≡ answer asked need → (finish M s ws 0).1 ≡ need
     finish_needs came h e =
         let fit = holds _ _ (passed _ h).0 in
         let count = within s.n (counted fit) in
@@ -182,4 +182,5 @@ pub finish_refused : (M : Masked) (s : State) (came ws : List ℕ) (refusal : Re
 finish_refused M s came ws refusal (Ok drawn) h e = elim h [ ]
 finish_refused M s came ws refusal (Err r) h e =
     finished M s came ws e
-    ∙ ap (λ (t : State). (streamed (answer_of (Err r)) t, came)) (settled_refused (number_of r) (closed s) s (not_done r))
+    ∙ ap (λ (t : State). (streamed (answer_of (Err r)) t, came))
+    (settled_refused (refusal_number r) (closed s) s (not_done r))

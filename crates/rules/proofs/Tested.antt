@@ -32,7 +32,7 @@ use Rattle.rules.proofs.Tags.{hash_proper}
 use Rattle.rules.proofs.MaskedHmac.{Keeps}
 use Rattle.rules.proofs.Loops.{length_used}
 use Rattle.rules.proofs.Allowed.{both_true, power_within, within}
-use Rattle.rules.proofs.Calls.{passed, holds, tells}
+use Rattle.rules.proofs.Calls.{answer, passed, holds, tells}
 
 -- a query refuses nothing of a share count that is taken, with a text that fits
 pub taken : {counted : Bool} → counted ≡ true → first (test 1 counted ∷ []) ≡ 0
@@ -49,7 +49,8 @@ pub record Ready (most n drawn have : ℕ) : Type 0 where
   pub few : n ≤ most
   pub room : 0 + drawn ≤ have
 
-ready : {most n : ℕ} (drawn have asked need : ℕ) (tests : List Test) → query tests drawn ≡ record { number = asked; drawn = need } → first tests ≡ 0
+ready : {most n : ℕ} (drawn have asked need : ℕ) (tests : List Test) → query tests drawn
+    ≡ answer asked need → first tests ≡ 0
     → (0 < n) × (n ≤ most) → test 5 (leb need have) ≡ 0 → Ready most n drawn have
 ready drawn have asked need tests e h count enough =
     let enough' = leb-true _ _ (holds _ _ enough) in
@@ -59,7 +60,7 @@ module _ {n have number : ℕ} {asked need : ℕ} where
   -- by the length x of an input of n shares, where d n words are drawn; m n shares out
   module _ (d : ℕ → ℕ) {x y : ℕ} where
     counted_ready : {most : ℕ} (counted : ℕ → Bool) → ((n : ℕ) → counted n ≡ true → (0 < n) × (n ≤ most)) → (m : ℕ → ℕ)
-        → query (test 1 (counted n) ∷ []) (d n) ≡ record { number = asked; drawn = need }
+        → query (test 1 (counted n) ∷ []) (d n) ≡ answer asked need
         → first (test 1 (counted n) ∷ test 2 (eqb x n) ∷ test 3 (eqb y (m n)) ∷ test 5 (leb need have) ∷ [])
         ≡ number
         → number ≡ 0 → (x ≡ n) × (y ≡ m n) × Ready most x (d x) have
@@ -70,18 +71,18 @@ module _ {n have number : ℕ} {asked need : ℕ} where
         let room = ready (d n) have _ _ _ e (taken count) (bounds n count) p.1.1.1.0 in
         (size, eqb-true y (m n) (holds _ _ p.1.1.0), rw size room)
 
-    pub one_ready : (m : ℕ → ℕ) → query (test 1 (allowed n) ∷ []) (d n) ≡ record { number = asked; drawn = need }
+    pub one_ready : (m : ℕ → ℕ) → query (test 1 (allowed n) ∷ []) (d n) ≡ answer asked need
         → first (test 1 (allowed n) ∷ test 2 (eqb x n) ∷ test 3 (eqb y (m n)) ∷ test 5 (leb need have) ∷ [])
         ≡ number
         → number ≡ 0 → (x ≡ n) × (y ≡ m n) × Ready largest x (d x) have
     one_ready = counted_ready allowed within
 
-    pub short_ready : query (test 1 (power n) ∷ []) (d n) ≡ record { number = asked; drawn = need }
+    pub short_ready : query (test 1 (power n) ∷ []) (d n) ≡ answer asked need
         → first (test 1 (power n) ∷ test 2 (eqb x n) ∷ test 3 (eqb y n) ∷ test 5 (leb need have) ∷ []) ≡ number
         → number ≡ 0 → (x ≡ n) × (y ≡ n) × Ready 8 x (d x) have
     short_ready = counted_ready power power_within (λ n. n)
 
-    pub two_ready : {z : ℕ} → query (test 1 (allowed n) ∷ []) (d n) ≡ record { number = asked; drawn = need }
+    pub two_ready : {z : ℕ} → query (test 1 (allowed n) ∷ []) (d n) ≡ answer asked need
         → first (test 1 (allowed n) ∷ test 2 (both (eqb x n) (eqb y n)) ∷ test 3 (eqb z n) ∷ test 5 (leb need have)
         ∷ []) ≡ number
         → number ≡ 0 → (x ≡ n) × (y ≡ n) × (z ≡ n) × Ready largest x (d x) have
@@ -93,7 +94,7 @@ module _ {n have number : ℕ} {asked need : ℕ} where
         let room = ready (d n) have _ _ _ e (taken count) (within n count) p.1.1.1.0 in
         (size, eqb-true y n sizes.1, eqb-true z n (holds _ _ p.1.1.0), rw size room)
 
-  module _ {drawn : ℕ} (e : query (test 1 (allowed n) ∷ []) drawn ≡ record { number = asked; drawn = need }) {x : ℕ} where
+  module _ {drawn : ℕ} (e : query (test 1 (allowed n) ∷ []) drawn ≡ answer asked need) {x : ℕ} where
     pub split_ready : first (test 1 (allowed n) ∷ test 3 (eqb x n) ∷ test 5 (leb need have) ∷ []) ≡ number
         → number ≡ 0 → (x ≡ n) × Ready largest n drawn have
     split_ready is z =
@@ -108,7 +109,8 @@ module _ {n have number : ℕ} {asked need : ℕ} where
         let count = holds _ _ p.0 in
         (eqb-true x (16 * n) (holds _ _ p.1.0), ready drawn have _ _ _ e (taken count) (within n count) p.1.1.0)
 
-  module _ {drawn : ℕ} {fits : Bool} (e : query (test 1 (allowed n) ∷ test 4 fits ∷ []) drawn ≡ record { number = asked; drawn = need }) {x : ℕ} where
+  module _ {drawn : ℕ} {fits : Bool} (e : query (test 1 (allowed n) ∷ test 4 fits ∷ []) drawn
+      ≡ answer asked need) {x : ℕ} where
     pub key_ready : first (test 1 (allowed n) ∷ test 3 (eqb x (16 * n)) ∷ test 4 fits ∷ test 5 (leb need have) ∷ [])
         ≡ number
         → number ≡ 0 → (x ≡ 16 * n) × (fits ≡ true) × Ready largest n drawn have
@@ -158,26 +160,27 @@ short_text l h = omega (arith, leb-true l longest_message h)
 
 -- ---- each rule draws what its query tells, where the tests before the supply were passed
 pub needs : {S : Type 0} {P : S → Type 0} {rule : Draw S} (d asked need : ℕ) (tests : List Test) (ws : List ℕ)
-    → query tests d ≡ record { number = asked; drawn = need } → first tests ≡ 0 → Rule d P rule → (rule ws 0).1 ≡ need
+    → query tests d ≡ answer asked need → first tests ≡ 0 → Rule d P rule → (rule ws 0).1 ≡ need
 needs d asked need tests ws e h r = r.place ws 0 ∙ zero-add d ∙ tells tests d asked need e h
 
 module _ (n : ℕ) (came ws : List ℕ) (asked need : ℕ) where
   pub split_needs : (value : ℕ) → first (test 1 (allowed n) ∷ test 3 (eqb (length came) n) ∷ []) ≡ 0
-      → query (test 1 (allowed n) ∷ []) (n - 1) ≡ record { number = asked; drawn = need } → (split n value ws 0).1 ≡ need
+      → query (test 1 (allowed n) ∷ []) (n - 1) ≡ answer asked need → (split n value ws 0).1 ≡ need
   split_needs value h e =
       let count = holds _ _ (passed _ h).0 in
       needs (n - 1) asked need _ ws e (taken count) (split_rule n value (within n count).0)
 
   module _ (x : List ℕ) where
     module _ (h : first (one_tests (allowed n) n n x came) ≡ 0) where
-      pub refresh_needs : query (test 1 (allowed n) ∷ []) (refresh_draws n) ≡ record { number = asked; drawn = need } → (refresh x ws 0).1 ≡ need
+      pub refresh_needs : query (test 1 (allowed n) ∷ []) (refresh_draws n)
+          ≡ answer asked need → (refresh x ws 0).1 ≡ need
       refresh_needs e =
           let p = passed _ h in
           needs (refresh_draws n) asked need _ ws e (taken (holds _ _ p.0))
           (refresh_rule n x (eqb-true (length x) n (holds _ _ p.1.0)))
 
       module _ (w : (i : ℕ) → Fits w32 (get_or x i 0)) where
-        pub to_bool_needs : query (test 1 (allowed n) ∷ []) (to_bool_draws (add_draws 32) n) ≡ record { number = asked; drawn = need }
+        pub to_bool_needs : query (test 1 (allowed n) ∷ []) (to_bool_draws (add_draws 32) n) ≡ answer asked need
             → (to_bool (add 32) x ws 0).1 ≡ need
         to_bool_needs e =
             let p = passed _ h in
@@ -187,7 +190,8 @@ module _ (n : ℕ) (came ws : List ℕ) (asked need : ℕ) where
             needs (to_bool_draws (add_draws 32) (length x)) asked need _ ws (rw size e) (taken count)
             (to_bool_rule 32 (add_draws 32) (add 32) (add_adds 32 (omega arith)) x (omega arith) (λ i. (w i).fits))
 
-        pub to_arith_needs : query (test 1 (allowed n) ∷ []) (to_arith_draws (add_draws 32) refresh_draws n) ≡ record { number = asked; drawn = need }
+        pub to_arith_needs : query (test 1 (allowed n) ∷ []) (to_arith_draws (add_draws 32) refresh_draws n)
+            ≡ answer asked need
             → (to_arith 32 (add 32) refresh x ws 0).1 ≡ need
         to_arith_needs e =
             let p = passed _ h in
@@ -201,13 +205,14 @@ module _ (n : ℕ) (came ws : List ℕ) (asked need : ℕ) where
             secret)
 
     pub to_arith_short_needs : first (one_tests (power n) n n x came) ≡ 0
-        → query (test 1 (power n) ∷ []) (short_draws n) ≡ record { number = asked; drawn = need } → (to_arith_short 32 x ws 0).1 ≡ need
+        → query (test 1 (power n) ∷ []) (short_draws n) ≡ answer asked need → (to_arith_short 32 x ws 0).1 ≡ need
     to_arith_short_needs h e =
         let p = passed _ h in
         let size = eqb-true (length x) n (holds _ _ p.1.0) in
         needs (short_draws (length x)) asked need _ ws (rw size e) (taken (holds _ _ p.0)) (to_arith_short_rule 32 x)
 
-    pub expand_needs : first (one_tests (allowed n) n (2 * n) x came) ≡ 0 → query (test 1 (allowed n) ∷ []) n ≡ record { number = asked; drawn = need }
+    pub expand_needs : first (one_tests (allowed n) n (2 * n) x came) ≡ 0 → query (test 1 (allowed n) ∷ []) n
+        ≡ answer asked need
         → (expand x ws 0).1 ≡ need
     expand_needs h e =
         let p = passed _ h in
@@ -221,10 +226,10 @@ module _ (n : ℕ) (came ws : List ℕ) (asked need : ℕ) where
       sizes_two = let s = both_true _ _ (holds _ _ (passed _ h).1.0) in
           (eqb-true (length x) n s.0, eqb-true (length y) n s.1)
 
-      pub and_needs : query (test 1 (allowed n) ∷ []) (and_draws n) ≡ record { number = asked; drawn = need } → (and x y ws 0).1 ≡ need
+      pub and_needs : query (test 1 (allowed n) ∷ []) (and_draws n) ≡ answer asked need → (and x y ws 0).1 ≡ need
       and_needs e = needs (and_draws n) asked need _ ws e (taken count_two) (and_rule n x y sizes_two.0 sizes_two.1)
 
-      pub add_needs : (k : ℕ) → 0 < k → query (test 1 (allowed n) ∷ []) (add_draws k n) ≡ record { number = asked; drawn = need }
+      pub add_needs : (k : ℕ) → 0 < k → query (test 1 (allowed n) ∷ []) (add_draws k n) ≡ answer asked need
           → (add k x y ws 0).1 ≡ need
       add_needs k wide e =
           needs (add_draws k n) asked need _ ws e (taken count_two) (add_loop_rule k n x y wide sizes_two.0 sizes_two.1)
@@ -239,7 +244,8 @@ module _ (code n : ℕ) (came ws : List ℕ) (asked need : ℕ) where
   pub split_key_needs : (key : List ℕ)
       → first (test 1 (allowed n) ∷ test 3 (eqb (length came) (16 * n)) ∷ test 4 (leb (length key) longest_key) ∷ [])
       ≡ 0
-      → query (test 1 (allowed n) ∷ test 4 (leb (length key) longest_key) ∷ []) (key_draws M n (length key)) ≡ record { number = asked; drawn = need }
+      → query (test 1 (allowed n) ∷ test 4 (leb (length key) longest_key) ∷ []) (key_draws M n (length key))
+      ≡ answer asked need
       → (split_key M n key ws 0).1 ≡ need
   split_key_needs key h e =
       let p = passed _ h in
@@ -252,7 +258,8 @@ module _ (code n : ℕ) (came ws : List ℕ) (asked need : ℕ) where
       (test 1 (allowed n) ∷ test 2 (eqb (length key) (16 * n))
       ∷ test 3 (eqb (length came) (digest_bytes (standard_of 32 code))) ∷ test 4 (leb (length text) longest_message)
       ∷ []) ≡ 0
-      → query (test 1 (allowed n) ∷ test 4 (leb (length text) longest_message) ∷ []) (hmac_draws M n (length text)) ≡ record { number = asked; drawn = need }
+      → query (test 1 (allowed n) ∷ test 4 (leb (length text) longest_message) ∷ []) (hmac_draws M n (length text))
+      ≡ answer asked need
       → (hmac_tag M n key text ws 0).1 ≡ need
   hmac_tag_needs key text h e =
       let p = passed _ h in
@@ -264,7 +271,7 @@ module _ (code n : ℕ) (came ws : List ℕ) (asked need : ℕ) where
   -- a compression into a chain record that has room
   pub compress_needs : (chain block : List ℕ) → length chain ≡ chain_room (standard_of 32 code)
       → first (test 1 (allowed n) ∷ test 2 (eqb (length block) (16 * n)) ∷ []) ≡ 0
-      → query (test 1 (allowed n) ∷ []) (M.draws n) ≡ record { number = asked; drawn = need } → (compressed M n chain block ws 0).1 ≡ need
+      → query (test 1 (allowed n) ∷ []) (M.draws n) ≡ answer asked need → (compressed M n chain block ws 0).1 ≡ need
   compress_needs chain block whole h e =
       let p = passed _ h in
       let count = holds _ _ p.0 in

@@ -7,28 +7,28 @@ use Rattle.rules.specs.declared.Algorithm.TheVariants.{Sha1, Sha256}
 use Rattle.rules.specs.declared.Answer.{Answer}
 use Rattle.rules.specs.declared.Opened.{Opened}
 
-abbrev pub number_of : Refusal → ℕ
-number_of WrongCount = 1
-number_of WrongInput = 2
-number_of WrongOutput = 3
-number_of TooLong = 4
-number_of TooFewWords = 5
-number_of NotFit = 6
+abbrev pub refusal_number : Refusal → ℕ
+refusal_number WrongCount = 1
+refusal_number WrongInput = 2
+refusal_number WrongOutput = 3
+refusal_number TooLong = 4
+refusal_number TooFewWords = 5
+refusal_number NotFit = 6
 
 -- the number of an outcome
 abbrev pub number : {A : Type 0} → Result A Refusal → ℕ
 number (Ok made) = 0
-number (Err refusal) = number_of refusal
+number (Err refusal) = refusal_number refusal
 
 -- the count of words, or nothing drawn
 abbrev pub answer_of : Result ℕ Refusal → Answer
 answer_of (Ok drawn) = record { number = 0; drawn = drawn }
-answer_of (Err refusal) = record { number = number_of refusal; drawn = 0 }
+answer_of (Err refusal) = record { number = refusal_number refusal; drawn = 0 }
 
 -- the word that was opened, or 0
 abbrev pub opened_of : Result ℕ Refusal → Opened
 opened_of (Ok word) = record { number = 0; word = word }
-opened_of (Err refusal) = record { number = number_of refusal; word = 0 }
+opened_of (Err refusal) = record { number = refusal_number refusal; word = 0 }
 
 -- the code of a hash, as a state carries it
 abbrev pub code_of : Algorithm → ℕ

@@ -1,5 +1,5 @@
-// The calls on shares, each with its whole outcome: it asks how many words it draws, makes its tests, and then calls the
-// layer below. `flamivorse` exports them.
+// The calls on shares, each with its whole outcome: it asks how many words it draws, makes its tests, and then calls
+// the layer below. `flamivorse` exports them.
 #![tactic(auto)]
 
 ghost use Rattle.std.specs.Prelude.{◌≡◌};

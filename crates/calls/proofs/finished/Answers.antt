@@ -5,7 +5,7 @@ use Rattle.rules.specs.declared.Answer.{Answer}
 use Rattle.rules.specs.declared.State.{State}
 use Rattle.rules.specs.Refusals.{code_of}
 use Rattle.rules.specs.Stream.{streamed}
-use Rattle.rules.proofs.Calls.{holds, one_more, refused_asked, refused_early, refused, done}
+use Rattle.rules.proofs.Calls.{answer, holds, one_more, refused_asked, refused_early, refused, done}
 use Rattle.rules.proofs.StreamCalls.{finish_ready, finish_needs, finish_refused, finished}
 use Rattle.calls.proofs.finished.Goals as goal
 
@@ -46,5 +46,5 @@ returns c =
     finished _ c.args.state.now _ _
     (done _ _ _ _ _ _ is (λ h. finish_needs (code_of c.args.algorithm) _ _ _ _ c.requires _ h asked) _ _ refl
     c.finish_at-drawn.ensures.0)
-    ∙ ap (λ (s : State). (streamed (record { number = 0; drawn = c.finish_at-drawn.result }) s, c.finish_at-drawn.new.tag))
+    ∙ ap (λ (s : State). (streamed (answer 0 c.finish_at-drawn.result) s, c.finish_at-drawn.new.tag))
     (sym c.close.ensures)

@@ -16,7 +16,8 @@ returns-in_err-one_input c =
 
 pub to_arith-requires : goal.to_arith-requires
 to_arith-requires c =
-    let p = one_ready (to_arith_draws (add_draws 32) refresh_draws) (λ n. n) c.in_ok-need.ensures c.in_ok-one_input.ensures refl in
+    let draws = to_arith_draws (add_draws 32) refresh_draws in
+    let p = one_ready draws (λ n. n) c.in_ok-need.ensures c.in_ok-one_input.ensures refl in
     search rules
 
 pub returns : goal.returns
