@@ -108,8 +108,12 @@ module _ (code : Algorithm) (n : ℕ) (key ws : List ℕ) (at : ℕ) where
       let made : blocks (hash code) n (blocks_in l) (padded n l (held n (last_shares n vs ws at) ws at))
       (publics n (standard code).start) ws
       (at + length vs * (n - 1)) ≡ (d, q) = rw many (rw (f, g, e) at h) in
-      rw (splits_held n ws vs at, ← any_ending (code_of code) 0 (replicate l 0),
-      pad_blocks H (hash_proper 32 0) key, made)
+      rw (
+        splits_held n ws vs at,
+        ← any_ending (code_of code) 0 (replicate l 0),
+        pad_blocks H (hash_proper 32 0) key,
+        made,
+      )
 
   -- ---- by the length of the key
   pub long_made : (d z : List ℕ) (q : ℕ) → hash_key (hash code) n key ws at ≡ (d, q) → z ≡ d

@@ -80,5 +80,10 @@ pub finish_made : (code : Algorithm) (s : State) (ws tail tag : List ℕ) (at p 
 unfolding finish used
 finish_made code s ws tail tag at p q inner last waits text digest opened =
     let m = s.bytes / 64 + 1 in
-    rw (← waits, ending_blocks (standard code) (hash_proper 32 (code_of code)) m (m * 64) refl tail, text, digest,
-    opened)
+    rw (
+      ← waits,
+      ending_blocks (standard code) (hash_proper 32 (code_of code)) m (m * 64) refl tail,
+      text,
+      digest,
+      opened,
+    )
