@@ -1,15 +1,16 @@
-// The calls over a hash: a key split, one compression, a tag in one call and in pieces. Each takes any arguments and
-// says its whole outcome.
+// The calls over a hash, by its code: a key split, one compression, a tag in one call and in pieces. Each takes any
+// arguments and says its whole outcome. 0 is SHA-1's code, and every other SHA-256's, under a mark of its own.
 #![tactic(auto)]
 
 ghost use Rattle.std.specs.Prelude.{◌≡◌, [], ◌∷◌, ◌*◌, eqb, length, OnErr};
 ghost use Rattle.rules.specs.Numbers.{allowed, test};
 ghost use Rattle.rules.specs.Refusals.{answer_of};
 ghost use Rattle.rules.specs.Hmac.{chain_room};
+ghost use Rattle.rules.specs.Counts.{standard_of, hash_of};
 ghost use Rattle.rules.specs.Calls.{call, split_key_call, compress_call, hmac_call};
 ghost use Rattle.rules.specs.Stream.{start, streamed, start_call, feed_call, finish_call};
 ghost use Rattle.rules.specs.Outcome.{Whole};
-ghost use Rattle.hash.specs.Hash.{hash, standard};
+ghost use Rattle.hash.specs.Hash.{hash};
 
 use counts::{compress_words, feed_words, finish_words, hmac_words, key_words, start_words};
 use numbers::require;
@@ -18,14 +19,15 @@ use text_numbers::{compressing, key_splitting, tag_size, tagging};
 
 // A key into shares. A key that is too long draws nothing, and is refused after an output of another length.
 pub fn split_key(
-    algorithm: Algorithm,
+    code: u32,
     n: usize,
     key: &[u8],
     shares: &mut [u32],
     words: &[u32],
 ) -> Result<usize, Refusal>
-    ensures { split_key_call (hash algorithm) n key.now shares.old words.now ≡ (answer_of result, shares.new) }
+    ensures { split_key_call (hash_of 32 code) n key.now shares.old words.now ≡ (answer_of result, shares.new) }
 {
+    let algorithm = Algorithm::from(code);
     let need = key_words(algorithm, n, key.len()).unwrap_or(0);
     key_splitting(n, shares.len(), key.len(), need, words.len())?;
     Ok(keys::split_key(algorithm, n, key, shares, words, 0))
@@ -33,15 +35,16 @@ pub fn split_key(
 
 // One compression of a block into a chain record, which has the hash's length by its type.
 pub fn compress(
-    algorithm: Algorithm,
+    code: u32,
     n: usize,
     chain: &mut [u32],
     block: &[u32],
     words: &[u32],
 ) -> Result<usize, Refusal>
-    requires { length chain.old ≡ chain_room (standard algorithm) }
-    ensures { compress_call (hash algorithm) n chain.old block.now words.now ≡ (answer_of result, chain.new) }
+    requires { length chain.old ≡ chain_room (standard_of 32 code) }
+    ensures { compress_call (hash_of 32 code) n chain.old block.now words.now ≡ (answer_of result, chain.new) }
 {
+    let algorithm = Algorithm::from(code);
     let need = compress_words(algorithm, n)?;
     compressing(n, block.len(), need, words.len())?;
     Ok(hash::compress_record(algorithm, n, chain, block, words, 0))
@@ -50,15 +53,16 @@ pub fn compress(
 // The tag of a message under a key in shares. A message that is too long draws nothing, and is refused after a key or a
 // tag of another length.
 pub fn tag(
-    algorithm: Algorithm,
+    code: u32,
     n: usize,
     key: &[u32],
     message: &[u8],
     tag: &mut [u8],
     words: &[u32],
 ) -> Result<usize, Refusal>
-    ensures { hmac_call (hash algorithm) n key.now message.now tag.old words.now ≡ (answer_of result, tag.new) }
+    ensures { hmac_call (hash_of 32 code) n key.now message.now tag.old words.now ≡ (answer_of result, tag.new) }
 {
+    let algorithm = Algorithm::from(code);
     let need = hmac_words(algorithm, n, message.len()).unwrap_or(0);
     tagging(
         algorithm,
@@ -105,12 +109,17 @@ fn started(
 }
 
 // The state that a message starts from, under a key in shares; zeros where it is refused.
-pub fn start(algorithm: Algorithm, n: usize, key: &[u32], words: &[u32]) -> Streamed
-    ensures { start_call (hash algorithm) n key.now words.now ≡ result }
+pub fn start(code: u32, n: usize, key: &[u32], words: &[u32]) -> Streamed
+    ensures { start_call (hash_of 32 code) n key.now words.now ≡ result }
 {
     let mut state = states::zeros();
-    let outcome = started(algorithm, &mut state, n, key, words);
-    streamed(outcome, state)
+    match started(Algorithm::from(code), &mut state, n, key, words) {
+        Ok(drawn) => {
+            state.hash = code;
+            streamed(Ok(drawn), state)
+        }
+        Err(refusal) => streamed(Err(refusal), state),
+    }
 }
 
 // A piece fed to a state, which a refusal leaves as it was.
@@ -130,14 +139,20 @@ fn fed(
 }
 
 // A state with one more piece of the message.
-pub fn feed(algorithm: Algorithm, state: State, piece: &[u8], words: &[u32]) -> Streamed
-    ensures { feed_call (hash algorithm) state piece.now words.now ≡ result }
+pub fn feed(code: u32, state: State, piece: &[u8], words: &[u32]) -> Streamed
+    ensures { feed_call (hash_of 32 code) state piece.now words.now ≡ result }
 {
+    if state.hash != code {
+        return streamed(Err(Refusal::NotFit), state);
+    }
+    let algorithm = Algorithm::from(code);
     let mut next = state;
+    next.hash = algorithm.into();
     let outcome = fed(algorithm, &mut next, piece, words);
     let Ok(drawn) = outcome else {
         return streamed(outcome, state);
     };
+    next.hash = code;
     streamed(Ok(drawn), next)
 }
 
@@ -161,10 +176,16 @@ fn finished(
 }
 
 // The tag of what was fed to a state.
-pub fn finish(algorithm: Algorithm, state: State, tag: &mut [u8], words: &[u32]) -> Streamed
-    ensures { finish_call (hash algorithm) state tag.old words.now ≡ (result, tag.new) }
+pub fn finish(code: u32, state: State, tag: &mut [u8], words: &[u32]) -> Streamed
+    ensures { finish_call (hash_of 32 code) state tag.old words.now ≡ (result, tag.new) }
 {
+    if state.hash != code {
+        return streamed(Err(Refusal::NotFit), state);
+    }
+    let algorithm = Algorithm::from(code);
     let mut last = state;
+    last.hash = algorithm.into();
     let outcome = finished(algorithm, &mut last, tag, words);
+    last.hash = code;
     streamed(outcome, last)
 }

@@ -44,8 +44,8 @@ fn make_tag(
     tag: &mut [u8],
 ) -> Result<usize, Refusal> {
     let mut shares = [0; BLOCK_WORDS];
-    calls::split_key(algorithm, 1, key, &mut shares, &[])?;
-    calls::tag(algorithm, 1, &shares, data, tag, &[])
+    calls::split_key(algorithm as u32, 1, key, &mut shares, &[])?;
+    calls::tag(algorithm as u32, 1, &shares, data, tag, &[])
 }
 
 // The hash whose digests may have so many bytes, and how many a whole one has.
@@ -60,12 +60,12 @@ fn hash_of(size: usize) -> Option<(Algorithm, usize)>
 }
 
 // A field of a line in hex, read into the room.
-fn read_field<'a>(
+fn read_field<'a, 'b>(
     text: &[u8],
     others: usize,
-    name: &'static [u8],
+    name: &'b [u8],
     room: &'a mut [u8],
-) -> Result<&'a [u8], Complaint> {
+) -> Result<&'a [u8], Complaint<'b>> {
     let most = room.len();
     match lines::hex_bytes(lines::field(text, others), room) {
         Ok(count) => Ok(&room[..count]),
@@ -74,7 +74,7 @@ fn read_field<'a>(
 }
 
 // Runs the case of a line, and writes how it went; whether its tag is its digest.
-fn run_case(text: &[u8]) -> Result<bool, Complaint> {
+fn run_case(text: &[u8]) -> Result<bool, Complaint<'static>> {
     if LONGEST_LINE < text.len() {
         return Err(Complaint::Line(b"longer than 11000 bytes"));
     }

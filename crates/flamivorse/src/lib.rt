@@ -168,7 +168,7 @@ pub extern "C" fn flamivorse_split_key(
     ensures { split_key_call (sha1 32) n key.now shares.old words.now
         ≡ (result, shares.new) }
 {
-    calls::split_key(Algorithm::Sha1, n, key, shares, words).into()
+    calls::split_key(Algorithm::Sha1 as u32, n, key, shares, words).into()
 }
 
 // One compression of a block of 16n words in shares into a chain.
@@ -183,7 +183,7 @@ pub extern "C" fn flamivorse_sha1_compress(
         ≡ (record { number = result.number; drawn = result.drawn }, result.chain.shares) }
 {
     let mut all = chain.shares;
-    let made = Answer::from(calls::compress(Algorithm::Sha1, n, &mut all, block, words));
+    let made = Answer::from(calls::compress(Algorithm::Sha1 as u32, n, &mut all, block, words));
     Compressed {
         number: made.number,
         drawn: made.drawn,
@@ -204,7 +204,7 @@ pub extern "C" fn flamivorse_hmac_sha1(
         words.now
         ≡ (result, tag.new) }
 {
-    calls::tag(Algorithm::Sha1, n, key, message, tag, words).into()
+    calls::tag(Algorithm::Sha1 as u32, n, key, message, tag, words).into()
 }
 
 // The state that a message starts from, under a key in shares.
@@ -212,7 +212,7 @@ pub extern "C" fn flamivorse_hmac_sha1(
 pub extern "C" fn flamivorse_hmac_sha1_start(n: usize, key: &[u32], words: &[u32]) -> Streamed
     ensures { start_call (sha1 32) n key.now words.now ≡ result }
 {
-    calls::start(Algorithm::Sha1, n, key, words)
+    calls::start(Algorithm::Sha1 as u32, n, key, words)
 }
 
 // A state with one more piece of the message.
@@ -220,7 +220,7 @@ pub extern "C" fn flamivorse_hmac_sha1_start(n: usize, key: &[u32], words: &[u32
 pub extern "C" fn flamivorse_hmac_sha1_feed(state: State, piece: &[u8], words: &[u32]) -> Streamed
     ensures { feed_call (sha1 32) state piece.now words.now ≡ result }
 {
-    calls::feed(Algorithm::Sha1, state, piece, words)
+    calls::feed(Algorithm::Sha1 as u32, state, piece, words)
 }
 
 // The tag of what was fed to a state.
@@ -232,7 +232,7 @@ pub extern "C" fn flamivorse_hmac_sha1_finish(
 ) -> Streamed
     ensures { finish_call (sha1 32) state tag.old words.now ≡ (result, tag.new) }
 {
-    calls::finish(Algorithm::Sha1, state, tag, words)
+    calls::finish(Algorithm::Sha1 as u32, state, tag, words)
 }
 
 // ---- SHA-256 and HMAC
@@ -248,7 +248,7 @@ pub extern "C" fn flamivorse_sha256_split_key(
     ensures { split_key_call (sha256 32) n key.now shares.old words.now
         ≡ (result, shares.new) }
 {
-    calls::split_key(Algorithm::Sha256, n, key, shares, words).into()
+    calls::split_key(Algorithm::Sha256 as u32, n, key, shares, words).into()
 }
 
 // One compression of a block of 16n words in shares into a chain.
@@ -263,7 +263,7 @@ pub extern "C" fn flamivorse_sha256_compress(
         ≡ (record { number = result.number; drawn = result.drawn }, result.chain.shares) }
 {
     let mut all = chain.shares;
-    let made = Answer::from(calls::compress(Algorithm::Sha256, n, &mut all, block, words));
+    let made = Answer::from(calls::compress(Algorithm::Sha256 as u32, n, &mut all, block, words));
     Sha256Compressed {
         number: made.number,
         drawn: made.drawn,
@@ -284,7 +284,7 @@ pub extern "C" fn flamivorse_hmac_sha256(
         words.now
         ≡ (result, tag.new) }
 {
-    calls::tag(Algorithm::Sha256, n, key, message, tag, words).into()
+    calls::tag(Algorithm::Sha256 as u32, n, key, message, tag, words).into()
 }
 
 // The state that a message starts from, under a key in shares.
@@ -292,7 +292,7 @@ pub extern "C" fn flamivorse_hmac_sha256(
 pub extern "C" fn flamivorse_hmac_sha256_start(n: usize, key: &[u32], words: &[u32]) -> Streamed
     ensures { start_call (sha256 32) n key.now words.now ≡ result }
 {
-    calls::start(Algorithm::Sha256, n, key, words)
+    calls::start(Algorithm::Sha256 as u32, n, key, words)
 }
 
 // A state with one more piece of the message.
@@ -300,7 +300,7 @@ pub extern "C" fn flamivorse_hmac_sha256_start(n: usize, key: &[u32], words: &[u
 pub extern "C" fn flamivorse_hmac_sha256_feed(state: State, piece: &[u8], words: &[u32]) -> Streamed
     ensures { feed_call (sha256 32) state piece.now words.now ≡ result }
 {
-    calls::feed(Algorithm::Sha256, state, piece, words)
+    calls::feed(Algorithm::Sha256 as u32, state, piece, words)
 }
 
 // The tag of what was fed to a state.
@@ -312,7 +312,7 @@ pub extern "C" fn flamivorse_hmac_sha256_finish(
 ) -> Streamed
     ensures { finish_call (sha256 32) state tag.old words.now ≡ (result, tag.new) }
 {
-    calls::finish(Algorithm::Sha256, state, tag, words)
+    calls::finish(Algorithm::Sha256 as u32, state, tag, words)
 }
 
 // ---- comparing tags

@@ -239,6 +239,6 @@ pub fn hmac_tag(
     let mut block0 = [0u32; BLOCK];
     let block = &mut block0[0..end];
     let last = hmac_shares(algorithm, n, key, text, block, words, at);
-    tags::tag_bytes(algorithm, n, last.chain, tag);
+    tags::tag_bytes(algorithm.into(), n, last.chain, tag);
     last.at
 }

@@ -102,10 +102,10 @@ fn write_hex(bytes: &[u8]) {
 
 // What is wrong with a line: as a whole, or with a field in hex that has room for so many bytes.
 #[derive(Clone, Copy, Debug)]
-pub enum Complaint {
-    Line(&'static [u8]),
+pub enum Complaint<'a> {
+    Line(&'a [u8]),
     Field {
-        name: &'static [u8],
+        name: &'a [u8],
         fault: Fault,
         most: usize,
     },

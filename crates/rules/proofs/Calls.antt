@@ -137,18 +137,15 @@ module _ {S : Type 0} (tests : List Test) (rule : Draw S) (came : S) (ws : List 
   own : first (tests ++ (test 5 (leb (rule ws 0).1 (length ws)) ∷ [])) ≡ number
   own = sym (same_test tests [] 5 need (rule ws 0).1 (length ws) draws) ∙ is
 
+  -- whatever the number is
+  pub refused_at : (number ≡ 0 → ⊥) → call tests rule came ws ≡ (answer number 0, came)
+  unfolding call
+  refused_at h = rw (own, settled_refused number (rule ws 0).1 0 h, settled_refused number (rule ws 0).0 came h)
+
   pub refused : (refusal : Refusal) (made : Result ℕ Refusal) → number ≡ refusal_number refusal
       → IsErrAnd made (λ r. r ≡ refusal) → call tests rule came ws ≡ (answer_of made, came)
-  unfolding call
   refused refusal made e passes =
-      let h = not_done refusal in
-      rw (
-        own,
-        e,
-        settled_refused (refusal_number refusal) (rule ws 0).1 0 h,
-        settled_refused (refusal_number refusal) (rule ws 0).0 came h,
-        passed_on made passes,
-      )
+      refused_at (λ z. not_done refusal (sym e ∙ z)) ∙ (rw (e, passed_on made passes))
 
   pub done : (after : S) (drawn : ℕ) → number ≡ 0 → rule ws 0 ≡ (after, drawn)
       → call tests rule came ws ≡ (record { number = 0; drawn = drawn }, after)

@@ -30,3 +30,4 @@ pub mod Tested
 pub mod StreamCalls
 pub mod AtStreams
 pub mod Reaching
+pub mod Codes

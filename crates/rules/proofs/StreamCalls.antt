@@ -13,7 +13,7 @@ use Rattle.rules.specs.declared.Answer.{Answer}
 use Rattle.rules.specs.declared.Sha256Chain.{Sha256Chain}
 use Rattle.rules.specs.declared.State.{State}
 use Rattle.rules.specs.Supply.{Rule}
-use Rattle.rules.specs.Numbers.{largest, longest_message, allowed, test, first, settled}
+use Rattle.rules.specs.Numbers.{largest, longest_message, allowed, Test, test, first, settled}
 use Rattle.rules.specs.Hash.{Hash, block_bytes, chain_words, digest_bytes}
 use Rattle.rules.specs.Sha1.{open_words}
 use Rattle.rules.specs.Hmac.{Masked}
@@ -37,7 +37,7 @@ use Rattle.rules.proofs.Streaming.{made_whole}
 use Rattle.std.specs.Prelude.{Result, Ok, Err, IsErrAnd}
 use Rattle.rules.specs.declared.Refusal.{Refusal}
 use Rattle.rules.specs.Refusals.{refusal_number, answer_of}
-use Rattle.rules.proofs.Calls.{answer, not_done, passed, holds, tells, settled_refused}
+use Rattle.rules.proofs.Calls.{answer, not_done, passed, holds, one_more, tells, settled_refused, refused_at}
 use Rattle.rules.proofs.Tested.{needs, taken, fits}
 
 module _ (M : Masked) (s : State) (some : 0 < s.n) (keeps : Keeps M s.n (λ v. Unit {0}) (Sized s.n))
@@ -81,6 +81,10 @@ module _ (M : Masked) (s : State) (some : 0 < s.n) (keeps : Keeps M s.n (λ v. U
         ap length f.is
         ∙ length_all_bytes H.word_bytes (open_words s.n (chain_words H) f.chain)
         ∙ ap (λ t. t * H.word_bytes) (length_open s.n (chain_words H) f.chain)))
+
+-- the number so far, or, where that is 0, what one more test gives
+abbrev also : ℕ → Test → ℕ
+also number t = settled number t number
 
 fit_taken : {fits : Bool} → fits ≡ true → first (test 6 fits ∷ []) ≡ 0
 unfolding first test
@@ -160,6 +164,31 @@ module _ (code : ℕ) where
         (finish_sized M s some (hash_size 32 (lit< tt) code s.n some) refl
         (chain_fits 32 code s.n count.1) whole (hash_proper 32 code))
 
+  -- ---- refused, by its query or by its own tests: a feed with the state as it was given, a finish with the tag's bytes
+  -- too
+  module _ (s : State) (ws : List ℕ) (asked need number : ℕ) (whole : Whole s) (fails : number ≡ 0 → ⊥) where
+    pub feed_refused : (piece : List ℕ) → feed_words M s (length piece) ≡ answer asked need
+        → number ≡ also asked (test 5 (leb need (length ws)))
+        → feed_call M s piece ws ≡ streamed (answer number 0) s
+    unfolding feed_call
+    feed_refused piece e is =
+        ap (λ (o : Answer × State). streamed o.0 o.1)
+        (refused_at (_ ∷ _ ∷ []) (feed M s piece) s ws need number
+        (one_more (_ ∷ _ ∷ []) _ asked number (ap (λ (a : Answer). a.number) e) is)
+        (λ z. feed_needs s ws asked need whole piece z e) fails)
+
+    pub finish_refused : (came : List ℕ) → finish_words M s ≡ answer asked need
+        → number ≡ also (also asked (test 3 (eqb (length came) tag_size))) (test 5 (leb need (length ws)))
+        → finish_call M s came ws ≡ (streamed (answer number 0) s, came)
+    unfolding finish_call
+    finish_refused came e is =
+        let two = one_more (_ ∷ []) (test 3 (eqb (length came) tag_size)) asked _ (ap (λ (a : Answer). a.number) e)
+        refl in
+        ap (λ (o : Answer × List ℕ). (streamed o.0 (settled o.0.number (closed s) s), o.1))
+        (refused_at (_ ∷ _ ∷ []) (finish M s) came ws need number (one_more (_ ∷ _ ∷ []) _ _ number two is)
+        (λ z. finish_needs s ws asked need whole came z e) fails)
+        ∙ rw (settled_refused number (closed s) s fails)
+
 -- ---- the calls' outcomes, from those of their tests and rules
 pub fed : (M : Masked) (s : State) (piece ws : List ℕ) {o : Answer × State}
     → call (test 6 (is_fit M s) ∷ test 4 (leb (s.bytes + length piece) longest_message) ∷ []) (feed M s piece) s ws ≡ o
@@ -174,13 +203,13 @@ unfolding finish_call
 finished M s came ws e = ap (λ (o : Answer × List ℕ). (streamed o.0 (settled o.0.number (closed s) s), o.1)) e
 
 -- a refused finish leaves the state
-pub finish_refused : (M : Masked) (s : State) (came ws : List ℕ) (refusal : Refusal) (made : Result ℕ Refusal)
+pub finished_refused : (M : Masked) (s : State) (came ws : List ℕ) (refusal : Refusal) (made : Result ℕ Refusal)
     → IsErrAnd made (λ r. r ≡ refusal)
     → call (test 6 (is_fit M s) ∷ test 3 (eqb (length came) (digest_bytes M.standard)) ∷ []) (finish M s) came ws
     ≡ (answer_of made, came)
     → finish_call M s came ws ≡ (streamed (answer_of made) s, came)
-finish_refused M s came ws refusal (Ok drawn) h e = elim h [ ]
-finish_refused M s came ws refusal (Err r) h e =
+finished_refused M s came ws refusal (Ok drawn) h e = elim h [ ]
+finished_refused M s came ws refusal (Err r) h e =
     finished M s came ws e
     ∙ ap (λ (t : State). (streamed (answer_of (Err r)) t, came))
     (settled_refused (refusal_number r) (closed s) s (not_done r))

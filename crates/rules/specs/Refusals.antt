@@ -1,5 +1,5 @@
 -- Section 3: what an outcome is told as, to C too: 0 and what was made, or the number of the refusal.
-use Rattle.std.specs.Prelude.{ℕ, Result, Ok, Err}
+use Rattle.std.specs.Prelude.{ℕ, zero, suc, Result, Ok, Err}
 use Rattle.rules.specs.declared.Refusal.{Refusal}
 use Rattle.rules.specs.declared.Refusal.TheVariants.{WrongCount, WrongInput, WrongOutput, TooLong, TooFewWords, NotFit}
 use Rattle.rules.specs.declared.Algorithm.{Algorithm}
@@ -34,3 +34,8 @@ opened_of (Err refusal) = record { number = refusal_number refusal; word = 0 }
 abbrev pub code_of : Algorithm → ℕ
 code_of Sha1 = 0
 code_of Sha256 = 1
+
+-- the hash of a code: every code but 0 is SHA-256's
+abbrev pub algorithm_of : ℕ → Algorithm
+algorithm_of zero = Sha1
+algorithm_of (suc code) = Sha256

@@ -3,7 +3,7 @@
 #![tactic(auto)]
 
 ghost use Rattle.std.specs.Prelude.{◌≡◌};
-ghost use Rattle.rules.specs.Refusals.{answer_of, opened_of};
+ghost use Rattle.rules.specs.Refusals.{answer_of, opened_of, code_of, algorithm_of};
 
 // The largest share count: room for shares is made for so many.
 pub const LARGEST: usize = 16;
@@ -57,6 +57,25 @@ pub enum Refusal {
 pub enum Algorithm {
     Sha1 = 0,
     Sha256 = 1,
+}
+
+impl From<u32> for Algorithm {
+    ghost from_gives = { λ code algorithm. algorithm ≡ algorithm_of code };
+
+    fn from(code: u32) -> Algorithm {
+        match code {
+            0 => Algorithm::Sha1,
+            _ => Algorithm::Sha256,
+        }
+    }
+}
+
+impl From<Algorithm> for u32 {
+    ghost from_gives = { λ algorithm code. code ≡ code_of algorithm };
+
+    fn from(algorithm: Algorithm) -> u32 {
+        algorithm as u32
+    }
 }
 
 // What a call on shares hands back: the number of section 3, and how many words it drew.

@@ -67,6 +67,6 @@ pub fn finish_at(
         words,
         inner.at,
     );
-    tags::tag_bytes(algorithm, n, last.chain, tag);
+    tags::tag_bytes(algorithm.into(), n, last.chain, tag);
     last.at
 }

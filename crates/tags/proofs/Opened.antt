@@ -7,11 +7,14 @@ use native.Mathlib.Nat.{add-mul}
 use lib.ListN.{length, take, drop}
 use lib.Seq.{take_all, drop-drop}
 use Rattle.rules.specs.declared.Algorithm.{Algorithm}
+use Rattle.rules.specs.Refusals.{algorithm_of}
 use Rattle.rules.specs.Numbers.{largest}
 use Rattle.rules.specs.Supply.{opened}
-use Rattle.rules.specs.Hash.{chain_words, digest_bytes, bytes_of, all_bytes}
+use Rattle.rules.specs.Hash.{Hash, chain_words, digest_bytes, bytes_of, all_bytes}
 use Rattle.rules.specs.Sha1.{word, open_words}
 use Rattle.rules.specs.Hmac.{used, tag_of}
+use Rattle.rules.specs.Counts.{standard_of}
+use Rattle.rules.proofs.Codes.{standard_by}
 use Rattle.hash.specs.Hash.{standard}
 use Rattle.hash.proofs.Chains.{lent, lent_size, array_end}
 
@@ -37,16 +40,19 @@ module _ (n m : ℕ) (s : List ℕ) where
       let none : m - w ≡ 0 = omega arith in
       sym (append-nil tag) ∙ ap (λ (t : List ℕ). t ++ []) (sym (take_all (4 * w) tag (omega arith))) ∙ (rw none at p)
 
--- the used words of a chain, lent and opened
-module _ (code : Algorithm) (n m end : ℕ) (words : m ≡ chain_words (standard code)) where
-  pub lent_words : (chain : List ℕ) → length chain ≡ 128 → end ≡ chain_words (standard code) * n
+-- the used words of a chain, lent and opened, by the hash of a code
+module _ (code : ℕ) (algorithm : Algorithm) (n m end : ℕ) (words : m ≡ chain_words (standard algorithm)) where
+  pub lent_words : (chain : List ℕ) → length chain ≡ 128 → end ≡ chain_words (standard algorithm) * n
       → end ≤ 8 * n → n ≤ largest → length (take (end - 0) chain) ≡ m * n
-  lent_words chain whole is most low = rw words (lent_size code n end is chain (array_end n end chain whole most low))
+  lent_words chain whole is most low =
+      rw words (lent_size algorithm n end is chain (array_end n end chain whole most low))
 
-  pub tag_size_lem : (l : ℕ) → l ≡ digest_bytes (standard code) → l ≡ m * 4
-  tag_size_lem l e = rw words e
+  pub tag_size_lem : (l : ℕ) → algorithm ≡ algorithm_of code → l ≡ digest_bytes (standard_of 32 code) → l ≡ m * 4
+  tag_size_lem l known e = rw words (e ∙ ap digest_bytes (standard_by 32 code algorithm known))
 
-  pub tag_opened : (chain tag : List ℕ) → end ≡ chain_words (standard code) * n
-      → tag ≡ all_bytes 4 (open_words n m (take (end - 0) chain)) → tag ≡ tag_of (standard code) n
-      (used (standard code) n chain)
-  tag_opened chain tag is e = e ∙ rw (words, lent code n end is chain)
+  pub tag_opened : (chain tag : List ℕ) → algorithm ≡ algorithm_of code → end ≡ chain_words (standard algorithm) * n
+      → tag ≡ all_bytes 4 (open_words n m (take (end - 0) chain)) → tag ≡ tag_of (standard_of 32 code) n
+      (used (standard_of 32 code) n chain)
+  tag_opened chain tag known is e =
+      e ∙ (rw (words, lent algorithm n end is chain))
+      ∙ ap (λ (H : Hash). tag_of H n (used H n chain)) (sym (standard_by 32 code algorithm known))

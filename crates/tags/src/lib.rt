@@ -6,7 +6,7 @@ ghost use Rattle.rules.specs.Numbers.{largest};
 ghost use Rattle.rules.specs.Hash.{digest_bytes, all_bytes, bytes_of};
 ghost use Rattle.rules.specs.Sha1.{open_words};
 ghost use Rattle.rules.specs.Hmac.{used, tag_of};
-ghost use Rattle.hash.specs.Hash.{standard};
+ghost use Rattle.rules.specs.Counts.{standard_of};
 
 use hash::{chain_end, chain_words};
 use rules::{Algorithm, Sha256Chain, WORD_BYTES};
@@ -31,11 +31,12 @@ fn open_bytes(n: usize, count: usize, digest: &[u32], tag: &mut [u8])
     }
 }
 
-// A tag in shares, opened: its bytes.
-pub fn tag_bytes(algorithm: Algorithm, n: usize, chain: Sha256Chain, tag: &mut [u8])
-    requires { (n ≤ largest) × (length tag.old ≡ digest_bytes (standard algorithm)) }
-    ensures { tag.new ≡ tag_of (standard algorithm) n (used (standard algorithm) n chain.shares) }
+// A tag in shares, opened: its bytes. The hash goes by its code, as a state carries it.
+pub fn tag_bytes(code: u32, n: usize, chain: Sha256Chain, tag: &mut [u8])
+    requires { (n ≤ largest) × (length tag.old ≡ digest_bytes (standard_of 32 code)) }
+    ensures { tag.new ≡ tag_of (standard_of 32 code) n (used (standard_of 32 code) n chain.shares) }
 {
+    let algorithm = Algorithm::from(code);
     let end = chain_end(algorithm, n);
     let all = chain.shares;
     open_bytes(n, chain_words(algorithm), &all[0..end], tag);

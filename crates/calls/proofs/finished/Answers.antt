@@ -6,12 +6,12 @@ use Rattle.rules.specs.declared.State.{State}
 use Rattle.rules.specs.Refusals.{code_of}
 use Rattle.rules.specs.Stream.{streamed}
 use Rattle.rules.proofs.Calls.{answer, holds, one_more, refused_asked, refused_early, refused, done}
-use Rattle.rules.proofs.StreamCalls.{finish_ready, finish_needs, finish_refused, finished}
+use Rattle.rules.proofs.StreamCalls.{finish_ready, finish_needs, finished_refused, finished}
 use Rattle.calls.proofs.finished.Goals as goal
 
 pub returns-in_err-need : goal.returns-in_err-need
 returns-in_err-need c =
-    finish_refused _ c.args.state.now _ _ _ _ c.from_residual.ensures.1
+    finished_refused _ c.args.state.now _ _ _ _ c.from_residual.ensures.1
     (refused_asked (_ ∷ []) (_ ∷ []) _ _ _ _ _ _ c.in_err-need.ensures c.from_residual.ensures.1)
 
 pub returns-in_err-require : goal.returns-in_err-require
@@ -19,7 +19,7 @@ returns-in_err-require c =
     let fit = ap (λ (a : Answer). a.number) c.in_ok-need.ensures in
     let two = one_more (_ ∷ []) _ 0 _ fit (sym (rw c.tag_size.ensures at c.in_err-require.ensures)) in
     let passes = c.from_residual-in_err-require.ensures.1 in
-    finish_refused _ c.args.state.now _ _ _ _ passes (refused_early (_ ∷ _ ∷ []) [] _ _ _ _ _ two passes)
+    finished_refused _ c.args.state.now _ _ _ _ passes (refused_early (_ ∷ _ ∷ []) [] _ _ _ _ _ two passes)
 
 pub returns-in_err-require-2 : goal.returns-in_err-require-2
 returns-in_err-require-2 c =
@@ -28,7 +28,7 @@ returns-in_err-require-2 c =
     let two = one_more (_ ∷ []) _ 0 0 fit (sym (rw c.tag_size.ensures at c.in_ok-require.ensures)) in
     let is = one_more (_ ∷ _ ∷ []) _ 0 _ two (sym c.in_err-require-2.ensures) in
     let passes = c.from_residual-in_err-require-2.ensures.1 in
-    finish_refused _ c.args.state.now _ _ _ _ passes
+    finished_refused _ c.args.state.now _ _ _ _ passes
     (refused _ _ _ _ _ _ is (λ h. finish_needs (code_of c.args.algorithm) _ _ _ _ c.requires _ h asked) _ _ refl passes)
 
 pub finish_at-drawn-requires : goal.finish_at-drawn-requires

@@ -2,13 +2,15 @@
 use Rattle.std.proofs.Common.{refl, rules}
 use borrow.Author.Tests.{eqb-true}
 use Rattle.rules.proofs.Calls.{answered, refused, done}
+use Rattle.rules.proofs.Codes.{hmac_by}
 use Rattle.rules.proofs.Tested.{tag_ready, short_text, hmac_tag_needs}
 use Rattle.calls.proofs.tag.Goals as goal
 
 pub returns-in_err-tagging : goal.returns-in_err-tagging
 returns-in_err-tagging c =
     let asked = answered _ _ _ _ c.hmac_words.ensures c.unwrap_or-need.ensures in
-    refused _ _ _ _ _ _ c.in_err-tagging.ensures (λ h. search hmac_tag_needs) _ _ refl c.from_residual.ensures.1
+    hmac_by 32 c.args.code _ c.from-algorithm.result _ _ _ _ c.from-algorithm.ensures
+    (refused _ _ _ _ _ _ c.in_err-tagging.ensures (λ h. search hmac_tag_needs) _ _ refl c.from_residual.ensures.1)
 
 pub hmac_tag-requires : goal.hmac_tag-requires
 hmac_tag-requires c =
@@ -20,4 +22,4 @@ pub returns : goal.returns
 returns c =
     let asked = answered _ _ _ _ c.hmac_words.ensures c.unwrap_or-need.ensures in
     let is = c.in_ok-tagging.ensures in
-    search (done, hmac_tag_needs)
+    hmac_by 32 c.args.code _ c.from-algorithm.result _ _ _ _ c.from-algorithm.ensures (search (done, hmac_tag_needs))
