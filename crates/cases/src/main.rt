@@ -73,19 +73,8 @@ fn read_field<'a, 'b>(
     }
 }
 
-// Runs the case of a line, and writes how it went; whether its tag is its digest.
-fn run_case(text: &[u8]) -> Result<bool, Complaint<'static>> {
-    if LONGEST_LINE < text.len() {
-        return Err(Complaint::Line(b"longer than 11000 bytes"));
-    }
-    let number = lines::field(text, 0);
-    if !lines::is_number(number) {
-        return Err(Complaint::Line(b"the first field is not the number of a case"));
-    }
-    let mut key = [0; LONGEST_KEY];
-    let key = read_field(text, 1, b"key", &mut key)?;
-    let mut data = [0; LONGEST_MESSAGE];
-    let data = read_field(text, 2, b"data", &mut data)?;
+// Reads a line's digest, makes the tag, and writes how it went; whether the tag is the digest.
+fn read_digest(text: &[u8], key: &[u8], data: &[u8]) -> Result<bool, Complaint<'static>> {
     let mut digest = [0; SHA256_TAG];
     let digest = read_field(text, 3, b"digest", &mut digest)?;
     let Some((algorithm, whole)) = hash_of(digest.len()) else {
@@ -104,8 +93,29 @@ fn run_case(text: &[u8]) -> Result<bool, Complaint<'static>> {
     }
     let tag = &tag[..digest.len()];
     let right = tag == digest;
-    lines::write_case(number, tag, right);
+    lines::write_case(lines::field(text, 0), tag, right);
     Ok(right)
+}
+
+// Reads a line's data, and then the rest. The room for them is filled where it is made: it stands at the head of a
+// function of its own, so that no line pays for it that is refused before.
+fn read_data(text: &[u8], key: &[u8]) -> Result<bool, Complaint<'static>> {
+    let mut data = [0; LONGEST_MESSAGE];
+    let data = read_field(text, 2, b"data", &mut data)?;
+    read_digest(text, key, data)
+}
+
+// Runs the case of a line, and writes how it went; whether its tag is its digest.
+fn run_case(text: &[u8]) -> Result<bool, Complaint<'static>> {
+    if LONGEST_LINE < text.len() {
+        return Err(Complaint::Line(b"longer than 11000 bytes"));
+    }
+    if !lines::is_number(lines::field(text, 0)) {
+        return Err(Complaint::Line(b"the first field is not the number of a case"));
+    }
+    let mut key = [0; LONGEST_KEY];
+    let key = read_field(text, 1, b"key", &mut key)?;
+    read_data(text, key)
 }
 
 // Whether a line's case is right. What is wrong with a line that has none is told.

@@ -68,17 +68,28 @@ fn is_blank(b: u8) -> bool {
     matches!(b, b' ' | b'\t' | b'\r')
 }
 
+// How many blanks a line begins with, or how many bytes that are none.
+fn run_of(line: &[u8], blank: bool) -> usize
+    ensures { result ≤ length line.now }
+{
+    line.iter()
+        .position(|&b| is_blank(b) != blank)
+        .unwrap_or(line.len())
+}
+
 // The field of a line that comes after so many others, empty where there is none.
 pub fn field(line: &[u8], others: usize) -> &[u8] {
-    line.split(|&b| is_blank(b))
-        .filter(|field| !field.is_empty())
-        .nth(others)
-        .unwrap_or(&[])
+    let mut rest = &line[run_of(line, true)..];
+    for _ in 0..others {
+        rest = &rest[run_of(rest, false)..];
+        rest = &rest[run_of(rest, true)..];
+    }
+    &rest[..run_of(rest, false)]
 }
 
 // Whether a line is a comment or blank.
 pub fn is_comment(line: &[u8]) -> bool {
-    matches!(field(line, 0), [] | [b'#', ..])
+    matches!(line.iter().find(|&&b| !is_blank(b)), None | Some(b'#'))
 }
 
 // Whether a field is a number: one decimal digit or more.
@@ -117,30 +128,32 @@ pub fn complain(line: u64, complaint: Complaint) {
     io::print_decimal(STDOUT, line);
     write(b": ");
     match complaint {
-        Complaint::Line(what) => write(what),
+        Complaint::Line(what) => {
+            write(what);
+            write(b"\n");
+        }
         Complaint::Field { name, fault, most } => write_fault(name, fault, most),
     }
-    write(b"\n");
 }
 
-// Writes what is wrong with a field in hex.
+// Writes what is wrong with a field in hex, to the line's end.
 fn write_fault(name: &[u8], fault: Fault, most: usize) {
     write(b"the ");
     write(name);
     match fault {
-        Fault::Missing => write(b" is missing"),
-        Fault::BadDigit => write(b" has a bad hex digit"),
-        Fault::Odd => write(b" has an odd number of hex digits"),
+        Fault::Missing => write(b" is missing\n"),
+        Fault::BadDigit => write(b" has a bad hex digit\n"),
+        Fault::Odd => write(b" has an odd number of hex digits\n"),
         Fault::TooLong => write_limit(b" has more than ", most),
         Fault::TooShort => write_limit(b" has fewer than ", most),
     }
 }
 
-// Writes that a field's bytes are more or fewer than it may have.
+// Writes that a field's bytes are more or fewer than it may have, to the line's end.
 fn write_limit(comparison: &[u8], most: usize) {
     write(comparison);
     io::print_decimal(STDOUT, most as u64);
-    write(b" bytes");
+    write(b" bytes\n");
 }
 
 // Writes the line of a case: its number, its tag and whether that is right.

@@ -3,7 +3,7 @@
 use Prim.Native.Nat.{ℕ, zero, suc, ◌*◌}
 use mathlib.Core.Path.{◌≡◌, refl, sym, ap, ◌∙◌}
 use mathlib.Core.Bool.{Bool, true, false}
-use mathlib.Core.List.{List, [], ◌∷◌, ◌++◌}
+use mathlib.Core.List.{List, [], ◌∷◌}
 use Rattle.std.specs.Prelude.{Result, Ok, Err}
 use native.Mathlib.Omega.{arith}
 use lib.Dec.{eqb, leb}
@@ -15,9 +15,9 @@ use Rattle.rules.specs.declared.Refusal.{Refusal}
 use Rattle.rules.specs.declared.Refusal.TheVariants.{NotFit}
 use Rattle.rules.specs.declared.State.{State}
 use Rattle.rules.specs.declared.Streamed.{Streamed}
-use Rattle.rules.specs.Refusals.{refusal_number, answer_of, code_of, algorithm_of}
+use Rattle.rules.specs.Refusals.{answer_of, code_of, algorithm_of}
 use Rattle.rules.specs.Supply.{Draw}
-use Rattle.rules.specs.Numbers.{Test, longest_message, allowed, both, choose, test, first, settled}
+use Rattle.rules.specs.Numbers.{Test, allowed, both, choose, test, first, settled}
 use Rattle.rules.specs.Hash.{block_bytes, digest_bytes}
 use Rattle.rules.specs.Hmac.{Masked, key_words, splits, blocks, hash_key, split_key, hmac_shares, hmac_tag}
 use Rattle.rules.specs.Counts.{state_draws, standard_of, hash_of}
