@@ -13,7 +13,7 @@ use Rattle.rules.specs.Hash.{Hash, chain_words, bytes_of, number_of, words_of, z
 use Rattle.rules.specs.Standard.{SHA1}
 use Rattle.rules.specs.Sha1.{publics}
 use Rattle.rules.specs.Hmac.{Masked, used, marked, blocks, digest_padding, tag_of, hmac_shares, hmac_tag}
-use Rattle.rules.specs.Counts.{compressions, standard_of}
+use Rattle.rules.specs.Counts.{compressions}
 use Rattle.rules.proofs.Loops.{Run}
 use Rattle.rules.proofs.Hashes.{ending_blocks}
 use Rattle.rules.proofs.Tags.{hash_proper}
@@ -138,9 +138,8 @@ module _ (l d at : ℕ) where
   pub outer_room : (have p : ℕ) → all ≤ have → p ≡ at + d + blocks_in l * d → p + d + d ≤ have
   outer_room have p h a = omega (arith, hmac_count p (p + d + d) a refl)
 
-pub tag_made : (code : Algorithm) (n : ℕ) (key text ws s t : List ℕ) (at p number : ℕ)
-    → hmac_shares (hash code) n key text ws at ≡ (used (standard code) n s, p) → number ≡ code_of code
-    → t ≡ tag_of (standard_of 32 number) n (used (standard_of 32 number) n s)
+pub tag_made : (code : Algorithm) (n : ℕ) (key text ws t : List ℕ) (at p : ℕ) {s : List ℕ}
+    → hmac_shares (hash code) n key text ws at ≡ (s, p) → t ≡ tag_of (standard code) n s
     → hmac_tag (hash code) n key text ws at ≡ (t, p)
 unfolding hmac_tag
-tag_made code n key text ws s t at p number e is f = rw (e, f, is)
+tag_made code n key text ws t at p e f = rw (e, f)

@@ -13,7 +13,7 @@ use Rattle.rules.specs.Numbers.{longest_message}
 use Rattle.rules.specs.Hash.{number_of, ending, filled}
 use Rattle.rules.specs.Sha1.{publics}
 use Rattle.rules.specs.Hmac.{used, marked, blocks, digest_padding, tag_of}
-use Rattle.rules.specs.Counts.{state_draws, standard_of}
+use Rattle.rules.specs.Counts.{state_draws}
 use Rattle.rules.specs.Stream.{state_room, state, start, finish}
 use Rattle.rules.proofs.Hashes.{ending_blocks}
 use Rattle.rules.proofs.Tags.{hash_proper}
@@ -65,7 +65,7 @@ module _ (bytes : ℕ) (tail : List ℕ) (size : length tail ≡ bytes % 64) whe
       finish_place q f = f ∙ ap (λ t. t + d) e ∙ all_blocks
 
 -- ---- the tag: the rest of the message with its padding, then the digest block
-pub finish_made : (code : Algorithm) (s : State) (ws tail tag : List ℕ) (at p q number : ℕ) (inner last : Sha256Chain)
+pub finish_made : (code : Algorithm) (s : State) (ws tail tag : List ℕ) (at p q : ℕ) (inner last : Sha256Chain)
     → (let M = hash code in
     let H = standard code in
     tail ≡ take (s.bytes % 64) s.tail
@@ -75,11 +75,10 @@ pub finish_made : (code : Algorithm) (s : State) (ws tail tag : List ℕ) (at p 
     → M.compress s.n (used H s.n s.outer.shares)
     (used H s.n inner.shares ++ publics s.n (digest_padding H)) ws p
     ≡ (used H s.n last.shares, q)
-    → number ≡ code_of code
-    → tag ≡ tag_of (standard_of 32 number) s.n (used (standard_of 32 number) s.n last.shares)
+    → tag ≡ tag_of H s.n (used H s.n last.shares)
     → finish M s ws at ≡ (tag, q))
 unfolding finish used
-finish_made code s ws tail tag at p q number inner last waits text digest is opened =
+finish_made code s ws tail tag at p q inner last waits text digest opened =
     let m = s.bytes / 64 + 1 in
     rw (
       ← waits,
@@ -87,5 +86,4 @@ finish_made code s ws tail tag at p q number inner last waits text digest is ope
       text,
       digest,
       opened,
-      is,
     )

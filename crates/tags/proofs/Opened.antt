@@ -7,7 +7,7 @@ use native.Mathlib.Nat.{add-mul}
 use lib.ListN.{length, take, drop}
 use lib.Seq.{take_all, drop-drop}
 use Rattle.rules.specs.declared.Algorithm.{Algorithm}
-use Rattle.rules.specs.Refusals.{algorithm_of}
+use Rattle.rules.specs.Refusals.{code_of, algorithm_of}
 use Rattle.rules.specs.Numbers.{largest}
 use Rattle.rules.specs.Supply.{opened}
 use Rattle.rules.specs.Hash.{Hash, chain_words, digest_bytes, bytes_of, all_bytes}
@@ -56,3 +56,9 @@ module _ (code : ℕ) (algorithm : Algorithm) (n m end : ℕ) (words : m ≡ cha
   tag_opened chain tag known is e =
       e ∙ (rw (words, lent algorithm n end is chain))
       ∙ ap (λ (H : Hash). tag_of H n (used H n chain)) (sym (standard_by 32 code algorithm known))
+
+-- a tag's bytes, by a number that is the hash's code
+pub tag_known : (algorithm : Algorithm) (number n : ℕ) (s tag : List ℕ) → number ≡ code_of algorithm
+    → tag ≡ tag_of (standard_of 32 number) n (used (standard_of 32 number) n s)
+    → tag ≡ tag_of (standard algorithm) n (used (standard algorithm) n s)
+tag_known algorithm number n s tag is e = rw is at e
