@@ -180,7 +180,8 @@ pub fn finish(code: u32, state: State, tag: &mut [u8], words: &[u32]) -> Streame
     ensures { finish_call (hash_of 32 code) state tag.old words.now ≡ (result, tag.new) }
 {
     if state.hash != code {
-        return streamed(Err(Refusal::NotFit), state);
+        let refused = Err(Refusal::NotFit);
+        return streamed(refused, state);
     }
     let algorithm = Algorithm::from(code);
     let mut last = state;

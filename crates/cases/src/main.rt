@@ -36,7 +36,8 @@ struct Tally {
     right: u64,
 }
 
-// The tag of the data under the key by a hash, at one share.
+// The tag of the data under the key by a hash, at one share. What the calls take of the stack is not taken before.
+#[inline(never)]
 fn make_tag(
     algorithm: Algorithm,
     key: &[u8],
